@@ -1,0 +1,2 @@
+-- A word as a set of variables: the definitions that the clauses of every crate cite.
+pub mod Words

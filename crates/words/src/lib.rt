@@ -1,0 +1,55 @@
+// A word of 64 bits as a set of the variables 0 to 63: variable k is a member where bit k is set.
+// Each function computes one definition of `specs/Words.antt`, or a count of the word's bits, at 64 bits.
+ghost use mathlib.Core.Path.{_≡_};
+ghost use Prim.Native.Nat.{min};
+ghost use lib.Count.{ones, trailingZeros};
+ghost use Rattle.words.specs.Words.{lowest, minus, meets, firstOf};
+
+// The lowest member of x, as a word of one variable, and 0 where x is empty.
+pub fn lowest_of(x: u64) -> u64
+    ensures { λ r. ⌜ r ≡ lowest x ⌝ }
+{
+    if x == 0 {
+        return 0;
+    }
+    1 << u64::trailing_zeros(x)
+}
+
+// The number of the lowest member of x (`trailing-member` in proofs/Count.antt), and 64 where x is empty.
+pub fn lowest_var(x: u64) -> u32
+    ensures { λ r. ⌜ r ≡ trailingZeros 64 x ⌝ }
+{
+    u64::trailing_zeros(x)
+}
+
+// How many members x has.
+pub fn count_of(x: u64) -> u32
+    ensures { λ r. ⌜ r ≡ ones x ⌝ }
+{
+    u64::count_ones(x)
+}
+
+// The word of the first n variables, and of all 64 where n is larger.
+pub fn first_of(n: u32) -> u64
+    ensures { λ r. ⌜ r ≡ firstOf (min n 64) ⌝ }
+{
+    if n < 64 {
+        (1 << n) - 1
+    } else {
+        18446744073709551615
+    }
+}
+
+// a without the members of b.
+pub fn minus(a: u64, b: u64) -> u64
+    ensures { λ r. ⌜ r ≡ minus a b ⌝ }
+{
+    a - (a & b)
+}
+
+// Whether a and b share a member.
+pub fn meets(a: u64, b: u64) -> bool
+    ensures { λ r. ⌜ r ≡ meets a b ⌝ }
+{
+    (a & b) != 0
+}
