@@ -1,0 +1,27 @@
+-- Each demand, with its proof. Demand 2 is soundness: an invariant of every point of a run. Demand 3's allowances all follow from lockstep, its bound
+-- from counting a point's branchings by its undecided options, and its nesting from the one option that a branching decides.
+use Rattle.steps.specs.Demands.{Demands}
+use Rattle.steps.proofs.Soundness.{demand2}
+use Rattle.steps.proofs.Examples.{joint, input}
+use Rattle.steps.proofs.Allowances.{same-outcome, one-short, both-short, stops-spent, derived-begin}
+use Rattle.steps.proofs.Bound.{always-enough}
+use Rattle.steps.proofs.Nesting.{one-deeper, never-passes}
+use Rattle.steps.proofs.Sweeping.{sweep-tests, sweep-ends}
+
+pub demands : Demands
+demands =
+    record {
+      right = demand2;
+      joint = joint;
+      input = input;
+      same-outcome = same-outcome;
+      one-short = one-short;
+      both-short = both-short;
+      stops-spent = stops-spent;
+      derived-begin = derived-begin;
+      always-enough = always-enough;
+      one-deeper = one-deeper;
+      never-passes = never-passes;
+      sweep-tests = sweep-tests;
+      sweep-ends = sweep-ends;
+    }

@@ -1,0 +1,1 @@
+// No code: document 01's steps as definitions, and the demands proved of them.
