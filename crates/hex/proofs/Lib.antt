@@ -1,0 +1,2 @@
+-- Laws of hexadecimal text.
+pub mod Bytes

@@ -1,0 +1,2 @@
+-- Bytes that are written as hexadecimal digits.
+pub mod Hex
