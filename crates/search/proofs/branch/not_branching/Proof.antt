@@ -1,0 +1,30 @@
+-- `search::branch::not_branching` meets its contract: the code goes by the turn, as the definition does. Assumes nothing.
+use mathlib.Core.Path.{ap, sym}
+use borrow.Author.Needs.{needs}
+use Rattle.search.specs.Values.{assignmentOf}
+use Rattle.search.specs.Tables.{turnOf, halted}
+use Rattle.search.specs.declared.enter.Turn.{Turn}
+use Rattle.search.proofs.branch.not_branching.Statement.{statement}
+use Rattle.search.proofs.branch.not_branching.Tie as tie
+
+enum-known-turn : tie.Need-enum-known-turn
+enum-known-turn c = search needs
+
+enum-known-turn-2 : tie.Need-enum-known-turn-2
+enum-known-turn-2 c = search needs
+
+enum-known-turn-3 : tie.Need-enum-known-turn-3
+enum-known-turn-3 c = search needs
+
+returns : tie.Need-returns
+returns c t rs = sym (ap (λ (x : Turn). halted (assignmentOf (c .before .before .before .args .a)) (turnOf t rs x)) (c .before .turn .given .1))
+
+returns-2 : tie.Need-returns-2
+returns-2 c t rs = sym (ap (λ (x : Turn). halted (assignmentOf (c .before .before .before .args .a)) (turnOf t rs x)) (c .before .turn2 .given .1))
+
+returns-3 : tie.Need-returns-3
+returns-3 c t rs = sym (ap (λ (x : Turn). halted (assignmentOf (c .before .before .before .args .a)) (turnOf t rs x)) (c .before .turn3 .given .1))
+
+pub not-branching-spec : {M : Type 1} → statement M
+not-branching-spec =
+    tie.close (tie.spec enum-known-turn enum-known-turn-2 enum-known-turn-3 returns returns-2 returns-3)

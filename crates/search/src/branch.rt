@@ -1,0 +1,66 @@
+// Steps 2 to 7 at a point, and step 1, which finds nothing here: the branching step, which calls itself on each side. The falling number is n less the decided variables.
+ghost use mathlib.Core.Path.{_≡_};
+ghost use mathlib.Core.List.{List};
+ghost use Prim.Native.Nat.{ℕ};
+ghost use lib.Count.{ones};
+ghost use Rattle.steps.specs.State.{undecided as Undecided};
+ghost use Rattle.steps.specs.Search.{search};
+ghost use Rattle.search.specs.Values.{assignmentOf, envOf};
+ghost use Rattle.search.specs.Tables.{stateOf, turnOf, sideOf, halted};
+ghost use Rattle.search.specs.Needs.{Point};
+use super::clause;
+use super::clause::Assignment;
+use super::enter;
+use super::enter::Turn;
+use super::merge;
+use super::merge::Ending;
+use super::merge::Side;
+use super::records;
+use super::state::Counts;
+use super::state::Env;
+
+// What a turn that does not branch comes to.
+pub fn not_branching(turn: Turn, a: Assignment) -> Side
+    ensures { λ r. ⌜ ((t rs : List ℕ) → sideOf t rs r ≡ halted (assignmentOf a) (turnOf t rs turn)) ⌝ }
+{
+    match turn {
+        Turn::Back(s) => Side::Up(s),
+        Turn::Satisfiable(s) => Side::Ended(Ending::Can, a, s),
+        Turn::Branch(_, _, s) => Side::Up(s),
+    }
+}
+
+// The search from a point: what it comes to, and the work tables as it leaves them. v is the variable whose second side the point is, 0 where it is none.
+pub fn branch(t: &mut [u64], rs: &mut [u64], e: Env, a: Assignment, v: u64, s: Counts) -> Side
+    requires { ⌜ Point (now t) (now rs) e a s ⌝ }
+    ensures { λ r. ⌜ sideOf (now (t .exit)) (now (rs .exit)) r ≡ search (envOf e) (ones (Undecided (envOf e) (assignmentOf a))) (assignmentOf a) v (stateOf (now (t .entry)) (now (rs .entry)) s) ⌝ }
+{
+    let turn = enter::enter(t, rs, e, a, v, s);
+    let Turn::Branch(w, b, here) = turn else {
+        return not_branching(turn, a);
+    };
+    if e.budget <= here.decisions {
+        return Side::Ended(Ending::OutOfDecisions, a, here);
+    }
+    let down = Counts {
+        clauses: here.clauses,
+        records: here.records,
+        decisions: here.decisions + 1,
+    };
+    let first = branch(t, rs, e, clause::decide(a, w, b), 0, down);
+    let Side::Up(one) = first else {
+        return first;
+    };
+    let r = records::last(rs, one.records).decided;
+    let k = records::without(rs, one.records, w);
+    let over = Counts {
+        clauses: one.clauses,
+        records: k,
+        decisions: one.decisions,
+    };
+    let second = branch(t, rs, e, clause::decide(a, w, !b), w, over);
+    let Side::Up(two) = second else {
+        return second;
+    };
+    merge::merge(t, rs, e, a, w, b, r, two)
+}
