@@ -1,0 +1,68 @@
+-- `optcheck::main` meets its contract: the reply is within its buffer, since it stands at the buffer's start. Assumes nothing.
+use mathlib.Core.Path.{sym, ap}
+use mathlib.Core.List.{List}
+use Prim.Native.Nat.{ℕ, _≤_}
+use native.Mathlib.Omega.{arith}
+use lib.ListN.{length, drop, length-append}
+use lib.Seq.{length-take-le}
+use Rattle.report.specs.Text.{Printed}
+use borrow.Author.Needs.{needs}
+use Rattle.optcheck.proofs.main.Statement.{statement}
+use Rattle.optcheck.proofs.main.Tie as tie
+
+-- what was printed is within the buffer
+within : {text before after : List ℕ} {r : ℕ} → Printed text before after r → r ≤ length after
+within {text} {before} p = omega (arith, p .size, ap length (p .bytes), length-append text (drop (length text) before))
+
+input-buffer-requires : tie.Need-input-buffer-requires
+input-buffer-requires c κs = search needs
+
+reply-buffer-requires : tie.Need-reply-buffer-requires
+reply-buffer-requires c κs = search needs
+
+slice-aggregate-read-full : tie.Need-slice-aggregate-read-full
+slice-aggregate-read-full c = search needs
+
+read-full-requires : tie.Need-read-full-requires
+read-full-requires c κs = search needs
+
+array-share-prefix-input : tie.Need-array-share-prefix-input
+array-share-prefix-input c = search needs
+
+slice-aggregate-respond : tie.Need-slice-aggregate-respond
+slice-aggregate-respond c = search needs
+
+slice-aggregate-respond-2 : tie.Need-slice-aggregate-respond-2
+slice-aggregate-respond-2 c = search needs
+
+respond-requires : tie.Need-respond-requires
+respond-requires c κs = search needs
+
+array-share-prefix-reply : tie.Need-array-share-prefix-reply
+array-share-prefix-reply c = within (c .before .respond .ensures)
+
+slice-aggregate-write-all : tie.Need-slice-aggregate-write-all
+slice-aggregate-write-all c = sym (length-take-le (c .before .before .respond .result) (c .before .before .respond .last .1 .0) (within (c .before .before .respond .ensures)))
+
+write-all-requires : tie.Need-write-all-requires
+write-all-requires c κs = search needs
+
+returns : tie.Need-returns
+returns c = search needs
+
+pub main-spec : {M : Type 1} → statement M
+main-spec =
+    tie.close
+    (tie.spec
+    input-buffer-requires
+    reply-buffer-requires
+    slice-aggregate-read-full
+    read-full-requires
+    array-share-prefix-input
+    slice-aggregate-respond
+    slice-aggregate-respond-2
+    respond-requires
+    array-share-prefix-reply
+    slice-aggregate-write-all
+    write-all-requires
+    returns)

@@ -1,0 +1,2 @@
+-- Laws of what the exported function leaves.
+pub mod Exported

@@ -1,0 +1,2 @@
+-- What the exported function leaves behind. `Exported` is the definition.
+pub mod Exported

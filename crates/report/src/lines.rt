@@ -1,0 +1,92 @@
+// The lines of the text. Each function writes at a place and gives the place after its lines.
+ghost use Prim.Native.Nat.{_≤_};
+ghost use lib.ListN.{length, take};
+ghost use Rattle.report.specs.Text.{wordText, line, clauseLine, recordLine, clauseLines, recordLines};
+ghost use Rattle.report.specs.Write.{Room, Wrote};
+use crate::Word;
+use crate::put::put_byte;
+use crate::put::put_number;
+use crate::put::put_text;
+
+// A line: a word and numbers.
+fn put_line(word: &[u8], numbers: &[u64], out: &mut [u8], at: usize) -> usize
+    requires { ⌜ Room (now out) at (line (now word) (now numbers)) ⌝ }
+    ensures { λ r. ⌜ Wrote (now (out .entry)) at (line (now (word .entry)) (now (numbers .entry))) (now (out .exit)) r ⌝ }
+{
+    let mut next = put_text(word, out, at);
+    let mut i: usize = 0;
+    while i < numbers.len() {
+        next = put_byte(32, out, next);
+        next = put_number(numbers[i], out, next);
+        i += 1;
+    }
+    put_byte(10, out, next)
+}
+
+// The first line: its word and its numbers.
+pub fn put_summary(word: Word, numbers: &[u64], out: &mut [u8], at: usize) -> usize
+    requires { ⌜ Room (now out) at (line (wordText word) (now numbers)) ⌝ }
+    ensures { λ r. ⌜ Wrote (now (out .entry)) at (line (wordText word) (now (numbers .entry))) (now (out .exit)) r ⌝ }
+{
+    match word {
+        Word::Can => put_line(b"can", numbers, out, at),
+        Word::Cannot => put_line(b"cannot", numbers, out, at),
+        Word::Refused => put_line(b"refused", numbers, out, at),
+        Word::Stopped => put_line(b"stopped", numbers, out, at),
+    }
+}
+
+// The line of a derived clause.
+fn put_clause(pos: u64, neg: u64, out: &mut [u8], at: usize) -> usize
+    requires { ⌜ Room (now out) at (clauseLine pos neg) ⌝ }
+    ensures { λ r. ⌜ Wrote (now (out .entry)) at (clauseLine pos neg) (now (out .exit)) r ⌝ }
+{
+    let numbers = [pos, neg];
+    put_line(b"d", &numbers, out, at)
+}
+
+// The line of a record.
+fn put_record(on: u64, trues: u64, redundant: u64, out: &mut [u8], at: usize) -> usize
+    requires { ⌜ Room (now out) at (recordLine on trues redundant) ⌝ }
+    ensures { λ r. ⌜ Wrote (now (out .entry)) at (recordLine on trues redundant) (now (out .exit)) r ⌝ }
+{
+    let numbers = [on, trues, redundant];
+    put_line(b"r", &numbers, out, at)
+}
+
+// The lines of the first clauses of two tables of words.
+pub fn put_clauses(pos: &[u64], neg: &[u64], count: usize, out: &mut [u8], at: usize) -> usize
+    requires { ⌜ (count ≤ length (now pos)) × (count ≤ length (now neg)) ⌝ }
+    requires { ⌜ Room (now out) at (clauseLines (take count (now pos)) (take count (now neg))) ⌝ }
+    ensures { λ r. ⌜ Wrote (now (out .entry)) at (clauseLines (take count (now (pos .entry))) (take count (now (neg .entry)))) (now (out .exit)) r ⌝ }
+{
+    let mut next = at;
+    let mut i: usize = 0;
+    while i < count {
+        next = put_clause(pos[i], neg[i], out, next);
+        i += 1;
+    }
+    next
+}
+
+// The lines of the first records of three tables of words.
+pub fn put_records(
+    on: &[u64],
+    trues: &[u64],
+    redundant: &[u64],
+    count: usize,
+    out: &mut [u8],
+    at: usize,
+) -> usize
+    requires { ⌜ (count ≤ length (now on)) × (count ≤ length (now trues)) × (count ≤ length (now redundant)) ⌝ }
+    requires { ⌜ Room (now out) at (recordLines (take count (now on)) (take count (now trues)) (take count (now redundant))) ⌝ }
+    ensures { λ r. ⌜ Wrote (now (out .entry)) at (recordLines (take count (now (on .entry))) (take count (now (trues .entry))) (take count (now (redundant .entry)))) (now (out .exit)) r ⌝ }
+{
+    let mut next = at;
+    let mut i: usize = 0;
+    while i < count {
+        next = put_record(on[i], trues[i], redundant[i], out, next);
+        i += 1;
+    }
+    next
+}
