@@ -1,0 +1,2 @@
+-- What the test program's own contracts cite.
+pub mod Lendable
