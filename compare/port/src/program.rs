@@ -1,0 +1,29 @@
+//! What the program does: standard input is the wanted and unwanted words, then the book.
+
+use crate::book::word;
+use crate::outcome::Outcome;
+use crate::request::{check, Places, Request};
+
+/// The program's places for derived rules.
+pub const PROGRAM_PLACES: usize = 2048;
+/// The program's places for records.
+pub const PROGRAM_RECORD_PLACES: usize = 64;
+/// The program's branching allowance.
+pub const PROGRAM_ALLOWANCE: u32 = 1_000_000;
+
+const ORDER: usize = 16;
+
+/// The outcome for the bytes of standard input.
+pub fn run_program(input: &[u8]) -> Outcome {
+    if input.len() < ORDER {
+        return Outcome::refused(1);
+    }
+    let (order, book) = input.split_at(ORDER);
+    check(&Request {
+        book,
+        wanted: word(order, 0),
+        unwanted: word(order, 1),
+        places: Places::equal(PROGRAM_PLACES, PROGRAM_RECORD_PLACES),
+        allowance: PROGRAM_ALLOWANCE,
+    })
+}
