@@ -15,7 +15,7 @@ use lib.Count.{ones, onesIn, ones-step, ones-ones, trailingZeros, under}
 use lib.Pow.{shr-lt}
 use Rattle.words.specs.Words.{isZero, odd, has, minus, meets, firstOf, lowest, Within}
 use Rattle.words.proofs.Membership.{digit, lowest-digit, halves, halves-at, odd-of, half-of, has-bit, has-bit-eq, has-firstOf, bit-halves, digit-minus, and-halves, or-halves, minus-halves}
-use Rattle.words.proofs.Sets.{is-zero, half-nonzero, some-member, within-antisym, and-whole, bit-within, minus-empty, lt-within}
+use Rattle.words.proofs.Sets.{is-zero, nonzero, half-nonzero, some-member, within-antisym, and-whole, bit-within, minus-empty, lt-within}
 use Rattle.words.proofs.Lowest.{lowest-odd, lowest-even, lowest-is}
 
 -- the empty word has none
@@ -91,6 +91,14 @@ ones-remove x k h = omega (arith, ones-rest (2 ^ k) x (bit-within x k h), ones-b
 -- a word that is not empty counts
 ones-pos : (x : ℕ) → isZero x ≡ false → 0 < ones x
 ones-pos x n = let m = some-member x n in omega (arith, ones-remove x (m .0) (m .1))
+
+-- a word has no members to count exactly if it is empty
+pub zero-ones : (x : ℕ) → isZero (ones x) ≡ isZero x
+zero-ones x = go (isZero x) refl
+  where
+    go : (b : Bool) → isZero x ≡ b → isZero (ones x) ≡ b
+    go true e = ap (λ (y : ℕ). isZero (ones y)) (is-zero x e) ∙ ap isZero ones-zero
+    go false e = nonzero (ones x) (λ z. omega (arith, ones-pos x e, z))
 
 -- a word that counts nothing is empty
 ones-none : (x : ℕ) → ones x ≡ 0 → isZero x ≡ true

@@ -2,6 +2,8 @@
 pub mod Truth
 pub mod Membership
 pub mod Sets
+pub mod Unions
 pub mod Lowest
 pub mod Count
+pub mod Demands
 mod Shift

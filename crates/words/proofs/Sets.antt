@@ -30,10 +30,6 @@ pub nonzero : (x : ℕ) → (x ≡ 0 → ⊥) → isZero x ≡ false
 nonzero zero n = absurd (n refl)
 nonzero (suc x) n = refl
 
--- a word without members is 0
-pub empty-is-zero : (x : ℕ) → ((k : ℕ) → has x k ≡ false) → x ≡ 0
-empty-is-zero x h = ext x 0 (λ k. h k ∙ sym (has-zero k))
-
 -- a word with a member is not empty
 pub member-nonzero : (x k : ℕ) → has x k ≡ true → isZero x ≡ false
 member-nonzero zero k h = absurd (false≢true (sym (has-zero k) ∙ h))

@@ -23,6 +23,13 @@ pub confirmed : (b : Bool) → (b ≡ false → ⊥) → b ≡ true
 confirmed true h = refl
 confirmed false h = absurd (h refl)
 
+-- two truth values with the same opposite are the same
+pub not-not : (p q : Bool) → not p ≡ not q → p ≡ q
+not-not true true e = refl
+not-not false false e = refl
+not-not true false e = sym e
+not-not false true e = sym e
+
 -- both hold, so the first does
 pub and-left : (p q : Bool) → (p && q) ≡ true → p ≡ true
 and-left true q h = refl
@@ -65,3 +72,13 @@ same-or-not false false = inl refl
 pub not-same : (p : Bool) → p ≡ not p → ⊥
 not-same true e = both-ways true refl e
 not-same false e = both-ways false e refl
+
+-- a definition that goes by a test, once the test is known
+module _ {A : Type 0} where
+  pub when-true : (b : Bool) (x y : A) → b ≡ true → (elim b as (λ _. A) [ true ↦ x | false ↦ y ]) ≡ x
+  when-true true x y e = refl
+  when-true false x y e = cc
+
+  pub when-false : (b : Bool) (x y : A) → b ≡ false → (elim b as (λ _. A) [ true ↦ x | false ↦ y ]) ≡ y
+  when-false false x y e = refl
+  when-false true x y e = cc

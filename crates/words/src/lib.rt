@@ -1,9 +1,24 @@
 // A word of 64 bits as a set of the variables 0 to 63: variable k is a member where bit k is set.
 // Each function computes one definition of `specs/Words.antt`, or a count of the word's bits, at 64 bits.
 ghost use mathlib.Core.Path.{_≡_};
-ghost use Prim.Native.Nat.{min};
+ghost use Prim.Native.Nat.{min, _^_, _<_};
 ghost use lib.Count.{ones, trailingZeros};
 ghost use Rattle.words.specs.Words.{lowest, minus, meets, firstOf};
+
+// The number of the lowest member of x, and 64 where x is empty.
+pub fn lowest_var(x: u64) -> u32
+    ensures { λ r. ⌜ r ≡ trailingZeros 64 x ⌝ }
+{
+    u64::trailing_zeros(x)
+}
+
+// The word of the variable of number k.
+pub fn word_of(k: u32) -> u64
+    requires { ⌜ k < 64 ⌝ }
+    ensures { λ r. ⌜ r ≡ 2 ^ k ⌝ }
+{
+    1 << k
+}
 
 // The lowest member of x, as a word of one variable, and 0 where x is empty.
 pub fn lowest_of(x: u64) -> u64
@@ -12,14 +27,7 @@ pub fn lowest_of(x: u64) -> u64
     if x == 0 {
         return 0;
     }
-    1 << u64::trailing_zeros(x)
-}
-
-// The number of the lowest member of x (`trailing-member` in proofs/Count.antt), and 64 where x is empty.
-pub fn lowest_var(x: u64) -> u32
-    ensures { λ r. ⌜ r ≡ trailingZeros 64 x ⌝ }
-{
-    u64::trailing_zeros(x)
+    word_of(lowest_var(x))
 }
 
 // How many members x has.
