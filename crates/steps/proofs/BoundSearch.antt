@@ -1,9 +1,8 @@
--- A point with at most k undecided variables makes fewer than 2^k decisions and adds no more clauses than it makes decisions. With none undecided it
--- does not branch. A branching counts one decision, each side has one undecided variable fewer, and coming together adds at most one clause. A stop
--- on decisions turns down one that is still within the bound, and a stop on clauses one whose branching is counted, so each leaves one to spare.
-use mathlib.Core.Path.{_≡_, refl, ap}
+-- A point with at most k undecided variables makes fewer than 2^k branchings and adds no more clauses than it makes branchings. With none undecided it
+-- does not branch. A branching counts one, each side has one undecided variable fewer, and coming together adds at most one clause. A stop
+-- on branchings turns down one that is still within the bound, and a stop on clauses one whose branching is counted, so each leaves one to spare.
+use mathlib.Core.Path.{ap}
 use mathlib.Core.Bool.{Bool, not}
-use mathlib.Core.Option.{Option, some, none}
 use Prim.Native.Nat.{ℕ, zero, suc, _+_, _≤_, _<_, _^_}
 use native.Mathlib.Nat.{two-pow-succ}
 use native.Mathlib.Omega.{arith}
@@ -11,13 +10,10 @@ use lib.Count.{ones}
 use lib.Dec.{ltb}
 use lib.ListN.{length, length-append}
 use lib.Pow.{pow-pos}
-use Rattle.words.specs.Words.{isZero}
-use Rattle.steps.specs.Lists.{find, any}
-use Rattle.steps.specs.Clause.{Clause, vars, Assignment, decide, last, without}
-use Rattle.steps.specs.State.{Env, State, Ending.can, Ending.cannot, Ending.outOfDecisions, Ending.outOfClauses, Side, Side.up, Side.ended, Search, undecided, recorded, added, counted}
-use Rattle.steps.specs.Sweep.{monotone}
-use Rattle.steps.specs.Enter.{Turn, Turn.back, Turn.satisfiable, Turn.branch, falsifiedNaming, enter}
-use Rattle.steps.specs.Merge.{same, resolvent, settle, learn, resolve, mergeOn, join, merge}
+use Rattle.steps.specs.Lists.{any}
+use Rattle.steps.specs.Clause.{Assignment, decide, last, without}
+use Rattle.steps.specs.State.{Env, State, Ending, Ending.can, Ending.cannot, Ending.outOfBranchings, Ending.outOfClauses, Side, Side.up, Side.ended, Search, undecided, recorded, counted}
+use Rattle.steps.specs.Enter.{Turn, Turn.back, Turn.satisfiable, Turn.branch, enter}
 use Rattle.steps.specs.Search.{afterSecond, afterFirst, proceed, isEmpty, step, search}
 use Rattle.steps.specs.Shape.{Shape, OneOf, TurnShape, SideShape}
 use Rattle.steps.proofs.ShapeKeep.{live-one}
@@ -25,101 +21,64 @@ use Rattle.steps.proofs.ShapeEnter.{shape-enter}
 use Rattle.steps.proofs.ShapeSides.{shape-second, shape-branch}
 use Rattle.steps.proofs.ShapeSearch.{Shapely, shape-search}
 use Rattle.steps.proofs.Nesting.{undecided-one-fewer}
-use Rattle.steps.proofs.LockstepGrows.{turned, taken, Listed, listed, listed-enter, listed-join}
-
--- ---- coming together
-
--- no decision more and at most one clause more; a stop on clauses adds none
-abbrev Merged : State → Side → Type 0
-Merged s (up t) = (t .decisions ≡ s .decisions) × (length (t .table) ≤ suc (length (s .table)))
-Merged s (ended can d t) = (t .decisions ≡ s .decisions) × (length (t .table) ≤ suc (length (s .table)))
-Merged s (ended cannot d t) = (t .decisions ≡ s .decisions) × (length (t .table) ≤ suc (length (s .table)))
-Merged s (ended outOfDecisions d t) = ⊥
-Merged s (ended outOfClauses d t) = (t .decisions ≡ s .decisions) × (length (t .table) ≡ length (s .table))
-
--- by a clause of the table
-merged-settle : (e : Env) (a : Assignment) (c : Clause) (s t : State) → t .decisions ≡ s .decisions → length (t .table) ≤ suc (length (s .table)) → Merged s (settle e a c t)
-merged-settle e a c s t d l = taken (Merged s) (isZero (vars c)) _ _ (λ _. (d, l)) (λ _. (d, l))
-
--- by the resolvent, which may be added
-merged-learn : (e : Env) (a : Assignment) (s : State) (c : Clause) (o : Option Clause) → Merged s (learn e a s c o)
-merged-learn e a s c none =
-    taken
-    (Merged s)
-    (ltb (length (s .table)) (e .capacity))
-    _
-    _
-    (λ _. merged-settle e a c s (added c s) refl (simp length-append (omega arith)))
-    (λ _. (refl, refl))
-merged-learn e a s c (some d) = merged-settle e a d s s refl (omega arith)
-
--- by the two sides' falsified clauses
-merged-resolve : (e : Env) (a : Assignment) (w : ℕ) (s : State) (c d : Option Clause) → Merged s (resolve e a w s c d)
-merged-resolve e a w s none d = (refl, omega arith)
-merged-resolve e a w s (some c) none = (refl, omega arith)
-merged-resolve e a w s (some c) (some d) = merged-learn e a s (resolvent w c d) (find (same (resolvent w c d)) (s .table))
-
--- by the test, or by resolving
-merged-mergeOn : (e : Env) (a : Assignment) (w : ℕ) (b : Bool) (s : State) (o : Option ℕ) → Merged s (mergeOn e a w b s o)
-merged-mergeOn e a w b s none = merged-resolve e a w s (falsifiedNaming w (decide a w b) (s .table)) (falsifiedNaming w (decide a w (not b)) (s .table))
-merged-mergeOn e a w b s (some r) = (refl, omega arith)
-
--- the same from a state with another list of D-sequents
-merged-listed : (s t : State) → Listed s t → (x : Side) → Merged t x → Merged s x
-merged-listed s t h (up u) m = let l = ap length (h .table) in (omega arith, omega arith)
-merged-listed s t h (ended can d u) m = let l = ap length (h .table) in (omega arith, omega arith)
-merged-listed s t h (ended cannot d u) m = let l = ap length (h .table) in (omega arith, omega arith)
-merged-listed s t h (ended outOfDecisions d u) m = m
-merged-listed s t h (ended outOfClauses d u) m = let l = ap length (h .table) in (omega arith, omega arith)
-
--- step 7 as a whole
-merged : (e : Env) (a : Assignment) (w : ℕ) (b : Bool) (r : ℕ) (s : State) → Merged s (merge e a w b r s)
-unfolding merge
-merged e a w b r s =
-    merged-listed s (join e a w r s) (listed-join e a w r s) (merge e a w b r s) (merged-mergeOn e a w b (join e a w r s) (monotone a (join e a w r s) w))
+use Rattle.steps.proofs.Listed.{turned, taken, Listed, listed, listed-enter}
+use Rattle.steps.proofs.Keeps.{Leaves, Merging, keeps-merge}
 
 -- ---- the bound
 
--- fewer than 2^k decisions more, and no more clauses than decisions
+-- fewer than 2^k branchings more, and no more clauses than branchings
 abbrev pub Added : ℕ → State → State → Type 0
-Added k s t = (t .decisions < s .decisions + 2 ^ k) × (length (t .table) + s .decisions ≤ length (s .table) + t .decisions)
+Added k s t = (t .branchings < s .branchings + 2 ^ k) × (length (t .table) + s .branchings ≤ length (s .table) + t .branchings)
 
--- and one to spare at a stop, of what it names
+-- and one clause to spare
+abbrev Spare : ℕ → State → State → Type 0
+Spare k s t = Added k s t × (length (t .table) + s .branchings < length (s .table) + t .branchings)
+
+-- a stop leaves one to spare of what it names
+abbrev AddsEnd : ℕ → State → Ending → State → Type 0
+AddsEnd k s can t = Added k s t
+AddsEnd k s cannot t = Added k s t
+AddsEnd k s outOfBranchings t = Added k s t × (suc (t .branchings) < s .branchings + 2 ^ k)
+AddsEnd k s outOfClauses t = Spare k s t
+
+-- a side within the bound
 abbrev pub Adds : ℕ → State → Side → Type 0
-Adds k s (up t) = Added k s t
-Adds k s (ended can d t) = Added k s t
-Adds k s (ended cannot d t) = Added k s t
-Adds k s (ended outOfDecisions d t) = Added k s t × (suc (t .decisions) < s .decisions + 2 ^ k)
-Adds k s (ended outOfClauses d t) = Added k s t × (length (t .table) + s .decisions < length (s .table) + t .decisions)
+Adds k s = Leaves (Added k s) (AddsEnd k s)
 
 -- nothing added is within every bound
 added-none : (k : ℕ) (s : State) → Added k s s
 added-none k s = (omega (arith, pow-pos k), omega arith)
+
+-- coming together adds at most one clause
+adding : (e : Env) (k : ℕ) (s : State) → Merging e (Spare k s) (Added k s) (AddsEnd k s)
+adding e k s =
+    record {
+      listed = λ l p. let same = ap length (l .table) in ((omega arith, omega arith), omega arith);
+      relisted = λ l p. let same = ap length (l .table) in (omega arith, omega arith);
+      none-added = λ p. p .0;
+      clause-added = λ c t z l p. (p .0 .0, simp length-append (omega arith));
+      empty-added = λ c t z l p. (p .0 .0, simp length-append (omega arith));
+      empty-found = λ t p. p .0;
+      full = λ t l p. p;
+    }
 
 -- the same from a state with another list of D-sequents
 adds-listed : (k : ℕ) (s t : State) → Listed s t → (x : Side) → Adds k t x → Adds k s x
 adds-listed k s t h (up u) m = let l = ap length (h .table) in (omega arith, omega arith)
 adds-listed k s t h (ended can d u) m = let l = ap length (h .table) in (omega arith, omega arith)
 adds-listed k s t h (ended cannot d u) m = let l = ap length (h .table) in (omega arith, omega arith)
-adds-listed k s t h (ended outOfDecisions d u) m = let l = ap length (h .table) in ((omega arith, omega arith), omega arith)
+adds-listed k s t h (ended outOfBranchings d u) m = let l = ap length (h .table) in ((omega arith, omega arith), omega arith)
 adds-listed k s t h (ended outOfClauses d u) m = let l = ap length (h .table) in ((omega arith, omega arith), omega arith)
-
--- a decision, the first side, the second side and coming together
-adds-merged : (k : ℕ) (s t u : State) → Added k (counted s) t → Added k t u → (x : Side) → Merged u x → Adds (suc k) s x
-adds-merged k s t u f g (up x) m = (omega (arith, two-pow-succ k), omega arith)
-adds-merged k s t u f g (ended can d x) m = (omega (arith, two-pow-succ k), omega arith)
-adds-merged k s t u f g (ended cannot d x) m = (omega (arith, two-pow-succ k), omega arith)
-adds-merged k s t u f g (ended outOfDecisions d x) m = absurd m
-adds-merged k s t u f g (ended outOfClauses d x) m = ((omega (arith, two-pow-succ k), omega arith), omega arith)
 
 -- from the second side on
 adds-afterSecond :
     (e : Env) (a : Assignment) (w : ℕ) (b : Bool) (r k : ℕ) (s t : State) → Added k (counted s) t → (x : Side) → Adds k t x →
     Adds (suc k) s (afterSecond e a w b r x)
-adds-afterSecond e a w b r k s t f (up u) g = adds-merged k s t u f g (merge e a w b r u) (merged e a w b r u)
+adds-afterSecond e a w b r k s t f (up u) g =
+    keeps-merge (adding e (suc k) s) a w b r u ((omega (arith, two-pow-succ k), omega arith), omega arith)
 adds-afterSecond e a w b r k s t f (ended can d u) g = (omega (arith, two-pow-succ k), omega arith)
 adds-afterSecond e a w b r k s t f (ended cannot d u) g = (omega (arith, two-pow-succ k), omega arith)
-adds-afterSecond e a w b r k s t f (ended outOfDecisions d u) g = ((omega (arith, two-pow-succ k), omega arith), omega (arith, two-pow-succ k))
+adds-afterSecond e a w b r k s t f (ended outOfBranchings d u) g = ((omega (arith, two-pow-succ k), omega arith), omega (arith, two-pow-succ k))
 adds-afterSecond e a w b r k s t f (ended outOfClauses d u) g = ((omega (arith, two-pow-succ k), omega arith), omega arith)
 
 -- a point whose sides add so much
@@ -135,7 +94,7 @@ module _ (e : Env) (self : Search) (below : Shapely e self) (k : ℕ) (a : Assig
       a
       w
       b
-      (last (t .records) .given .decided)
+      (last (t .records) .decisions .decided)
       k
       s
       t
@@ -150,7 +109,7 @@ module _ (e : Env) (self : Search) (below : Shapely e self) (k : ℕ) (a : Assig
       (sides w (not b) w (recorded (without w (t .records)) t) one (shape-second e a w b t h)))
   adds-afterFirst w b s (ended can d t) one h f = (omega (arith, two-pow-succ k, pow-pos k), omega arith)
   adds-afterFirst w b s (ended cannot d t) one h f = (omega (arith, two-pow-succ k, pow-pos k), omega arith)
-  adds-afterFirst w b s (ended outOfDecisions d t) one h f = ((omega (arith, two-pow-succ k, pow-pos k), omega arith), omega (arith, two-pow-succ k, pow-pos k))
+  adds-afterFirst w b s (ended outOfBranchings d t) one h f = ((omega (arith, two-pow-succ k, pow-pos k), omega arith), omega (arith, two-pow-succ k, pow-pos k))
   adds-afterFirst w b s (ended outOfClauses d t) one h f = ((omega (arith, two-pow-succ k, pow-pos k), omega arith), omega arith)
 
   -- from a turn on
@@ -160,7 +119,7 @@ module _ (e : Env) (self : Search) (below : Shapely e self) (k : ℕ) (a : Assig
   adds-proceed (branch w b s) h =
       taken
       (Adds (suc k) s)
-      (ltb (s .decisions) (e .budget))
+      (ltb (s .branchings) (e .allowance))
       _
       _
       (λ _.

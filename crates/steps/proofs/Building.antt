@@ -73,5 +73,5 @@ module _ (n : ℕ) (book : List Clause) (o : Assumptions) (input : Input n book 
   pub gives-holds : (t : List Clause) (d : DSequent) → Gives (given book o) t d → Holds n book o t d
   gives-holds t d g =
       ⊎-elim (λ b. inl b)
-      (λ never. inr (λ x small agree keeps. never (builds (g x (agrees-true x (d .given) agree) (dropping-true x (d .redundant) t keeps)))))
+      (λ never. inr (λ x small agree keeps. never (builds (g x (agrees-true x (d .decisions) agree) (dropping-true x (d .redundant) t keeps)))))
       decided

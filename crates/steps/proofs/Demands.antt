@@ -2,11 +2,13 @@
 -- from counting a point's branchings by its undecided options, and its nesting from the one option that a branching decides.
 use Rattle.steps.specs.Demands.{Demands}
 use Rattle.steps.proofs.Soundness.{demand2}
-use Rattle.steps.proofs.Examples.{joint, input}
-use Rattle.steps.proofs.Allowances.{same-outcome, one-short, both-short, stops-spent, derived-begin}
+use Rattle.steps.proofs.Examples.{joint, input, test-fails}
+use Rattle.steps.proofs.Marked.{marked-cases, further-cases}
+use Rattle.steps.proofs.Allowances.{demand3, stops-spent, derived-begin}
 use Rattle.steps.proofs.Bound.{always-enough}
 use Rattle.steps.proofs.Nesting.{one-deeper, never-passes}
 use Rattle.steps.proofs.Sweeping.{sweep-tests, sweep-ends}
+use Rattle.steps.proofs.Parents.{never-deeper, parents-exist}
 
 pub demands : Demands
 demands =
@@ -14,14 +16,17 @@ demands =
       right = demand2;
       joint = joint;
       input = input;
-      same-outcome = same-outcome;
-      one-short = one-short;
-      both-short = both-short;
+      buys = demand3;
       stops-spent = stops-spent;
       derived-begin = derived-begin;
       always-enough = always-enough;
       one-deeper = one-deeper;
       never-passes = never-passes;
+      never-deeper = never-deeper;
       sweep-tests = sweep-tests;
       sweep-ends = sweep-ends;
+      parents-exist = parents-exist;
+      test-fails = test-fails;
+      marked-cases = marked-cases;
+      further-cases = further-cases;
     }

@@ -20,11 +20,16 @@ pub mod SoundSweep
 pub mod SoundEnter
 pub mod SoundJoin
 pub mod SoundResolve
+pub mod Parents
 pub mod SoundMerge
 pub mod SoundSearch
 pub mod Building
 pub mod Soundness
 pub mod Examples
+pub mod Marked
+pub mod Listed
+pub mod Keeps
+pub mod NoneEmpty
 pub mod LockstepGrows
 pub mod LockstepSpent
 pub mod Lockstep

@@ -1,5 +1,5 @@
 -- One search, and the same search with no allowance smaller, go in lockstep: the second does exactly the same, or it goes on from where the first
--- stopped, past the allowance that stopped it. The two look at their allowances only where a decision is counted and where a clause is added. There
+-- stopped, past the allowance that stopped it. The two look at their allowances only where a branching is counted and where a clause is added. There
 -- they part only if the first stops and the second does not; and whatever the second does then only adds to what it has.
 use mathlib.Core.Path.{_≡_, refl, ap, sym, _∙_}
 use mathlib.Core.Bool.{Bool, true, false, not}
@@ -12,7 +12,7 @@ use lib.ListN.{length, length-append}
 use Rattle.words.specs.Words.{isZero, members}
 use Rattle.steps.specs.Lists.{find, any}
 use Rattle.steps.specs.Clause.{Clause, Assignment, decide, last, without}
-use Rattle.steps.specs.State.{Env, State, Ending.outOfDecisions, Ending.outOfClauses, Side, Side.up, Side.ended, Search, undecided, live, redundant, recorded, added, counted}
+use Rattle.steps.specs.State.{Env, State, Ending.outOfBranchings, Ending.outOfClauses, Side, Side.up, Side.ended, Search, undecided, live, redundant, recorded, added, counted}
 use Rattle.steps.specs.Sweep.{Found, Found.nothing, Found.variable, firstMonotone, monotone, strike, sweepOn, sweep}
 use Rattle.steps.specs.Enter.{Turn, Turn.back, Turn.satisfiable, Turn.branch, unit, choose, swept, falsifiedNaming, conflict, enter}
 use Rattle.steps.specs.Merge.{same, resolvent, settle, learn, resolve, mergeOn, join, merge}
@@ -21,7 +21,7 @@ use Rattle.steps.proofs.LockstepGrows.{at, Grows, grows-refl, grows-tra
 
 -- e with other allowances
 abbrev allowing : ℕ → ℕ → Env → Env
-allowing b p e = record { n = e .n; budget = b; capacity = p }
+allowing b p e = record { n = e .n; allowance = b; capacity = p }
 
 -- ---- what does not look at the allowances
 
@@ -79,14 +79,14 @@ module _ (e : Env) (b p : ℕ) where
 -- of two sides the second is the first, or the first is a stop and the second has gone past the allowance that it names
 pub data Lockstep (e : Env) : Side → Side → Type 0 where
   alike : {x : Side} → Lockstep e x x
-  decisions : {d : Assignment} {t : State} {y : Side} → e .budget < at y .decisions → Grows t (at y) → Lockstep e (ended outOfDecisions d t) y
+  branchings : {d : Assignment} {t : State} {y : Side} → e .allowance < at y .branchings → Grows t (at y) → Lockstep e (ended outOfBranchings d t) y
   clauses : {d : Assignment} {t : State} {y : Side} → e .capacity < length (at y .table) → Grows t (at y) → Lockstep e (ended outOfClauses d t) y
 
 -- a stop in the state t, and a state u that is past it: the second search goes on from u
-past-decisions :
-    {e : Env} {d : Assignment} {t u : State} (y : Side) → e .budget < u .decisions → Grows t u → Grows u (at y) →
-    Lockstep e (ended outOfDecisions d t) y
-past-decisions y h g k = decisions {y = y} (omega arith) (grows-trans g k)
+past-branchings :
+    {e : Env} {d : Assignment} {t u : State} (y : Side) → e .allowance < u .branchings → Grows t u → Grows u (at y) →
+    Lockstep e (ended outOfBranchings d t) y
+past-branchings y h g k = branchings {y = y} (omega arith) (grows-trans g k)
 
 -- the same for the table
 past-clauses :
@@ -106,10 +106,10 @@ compared P m l l′ h x y x′ y′ both second neither = go (ltb m l) (ltb m l�
     go false true p q = second (ltb-false m l p)
     go false false p q = neither
 
-module _ (e : Env) (budget capacity : ℕ) (more : e .budget ≤ budget) (room : e .capacity ≤ capacity) where
+module _ (e : Env) (allowance capacity : ℕ) (more : e .allowance ≤ allowance) (room : e .capacity ≤ capacity) where
   -- the same search with no allowance smaller
   abbrev e′ : Env
-  e′ = allowing budget capacity e
+  e′ = allowing allowance capacity e
 
   -- a new clause is added by both, by the second alone, or by neither
   lockstep-learn : (a : Assignment) (s : State) (c : Clause) (d : Option Clause) → Lockstep e (learn e a s c d) (learn e′ a s c d)
@@ -152,7 +152,7 @@ module _ (e : Env) (budget capacity : ℕ) (more : e .budget ≤ budget) (room :
       (a : Assignment) (v : ℕ) (b : Bool) (r : ℕ) {x y : Side} → Lockstep e x y → Lockstep e (afterSecond e a v b r x) (afterSecond e′ a v b r y)
   lockstep-afterSecond a v b r (alike {x = up s}) = lockstep-merge a v b r s
   lockstep-afterSecond a v b r (alike {x = ended x d s}) = alike
-  lockstep-afterSecond a v b r (decisions {y} h g) = past-decisions (afterSecond e′ a v b r y) h g (grows-afterSecond e′ a v b r y)
+  lockstep-afterSecond a v b r (branchings {y} h g) = past-branchings (afterSecond e′ a v b r y) h g (grows-afterSecond e′ a v b r y)
   lockstep-afterSecond a v b r (clauses {y} h g) = past-clauses (afterSecond e′ a v b r y) h g (grows-afterSecond e′ a v b r y)
 
   -- the two searches one level down go in lockstep, and the second only adds
@@ -164,21 +164,21 @@ module _ (e : Env) (budget capacity : ℕ) (more : e .budget ≤ budget) (room :
     lockstep-afterFirst :
         (a : Assignment) (v : ℕ) (b : Bool) {x y : Side} → Lockstep e x y → Lockstep e (afterFirst e self a v b x) (afterFirst e′ self′ a v b y)
     lockstep-afterFirst a v b (alike {x = up s}) =
-        lockstep-afterSecond a v b (last (s .records) .given .decided) (in-step (decide a v (not b)) v (recorded (without v (s .records)) s))
+        lockstep-afterSecond a v b (last (s .records) .decisions .decided) (in-step (decide a v (not b)) v (recorded (without v (s .records)) s))
     lockstep-afterFirst a v b (alike {x = ended x d s}) = alike
-    lockstep-afterFirst a v b (decisions {y} h g) = past-decisions (afterFirst e′ self′ a v b y) h g (grows-afterFirst e′ self′ grow a v b y)
+    lockstep-afterFirst a v b (branchings {y} h g) = past-branchings (afterFirst e′ self′ a v b y) h g (grows-afterFirst e′ self′ grow a v b y)
     lockstep-afterFirst a v b (clauses {y} h g) = past-clauses (afterFirst e′ self′ a v b y) h g (grows-afterFirst e′ self′ grow a v b y)
 
-    -- a decision is counted by both, by the second alone, or by neither
+    -- a branching is counted by both, by the second alone, or by neither
     lockstep-proceed : (a : Assignment) (t : Turn) → Lockstep e (proceed e self a t) (proceed e′ self′ a t)
     lockstep-proceed a (back s) = alike
     lockstep-proceed a (satisfiable s) = alike
     lockstep-proceed a (branch v b s) =
         compared
         (Lockstep e)
-        (s .decisions)
-        (e .budget)
-        budget
+        (s .branchings)
+        (e .allowance)
+        allowance
         more
         _
         _
@@ -186,7 +186,7 @@ module _ (e : Env) (budget capacity : ℕ) (more : e .budget ≤ budget) (room :
         _
         (lockstep-afterFirst a v b (in-step (decide a v b) 0 (counted s)))
         (λ spent.
-        past-decisions
+        past-branchings
         (afterFirst e′ self′ a v b (self′ (decide a v b) 0 (counted s)))
         (omega arith)
         (grows-counted s)
@@ -199,7 +199,7 @@ module _ (e : Env) (budget capacity : ℕ) (more : e .budget ≤ budget) (room :
     lockstep-step : InStep (step e self) (step e′ self′)
     unfolding step
     lockstep-step a v s =
-        abreast (Lockstep e) (any isEmpty (s .table)) _ _ _ _ alike (rw (sym (enter-agrees e budget capacity a v s)) (lockstep-proceed a (enter e a v s)))
+        abreast (Lockstep e) (any isEmpty (s .table)) _ _ _ _ alike (rw (sym (enter-agrees e allowance capacity a v s)) (lockstep-proceed a (enter e a v s)))
 
   -- the search, and the search with no allowance smaller
   pub lockstep : (k : ℕ) → InStep (search e k) (search e′ k)

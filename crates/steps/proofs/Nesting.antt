@@ -41,7 +41,7 @@ pub undecided-one-fewer :
     (e : Env) (a : Assignment) (w : ℕ) (b : Bool) → OneOf w (undecided e a) → ones (undecided e a) ≡ suc (ones (undecided e (decide a w b)))
 undecided-one-fewer e a w b one = rw (undecided-fewer e a w b, one .word) (ones-remove (undecided e a) (one .var) (one .member))
 
--- "nesting deepens by one decided option each time"
+-- a side of a branching decides one more variable
 pub one-deeper : OneDeeper
 one-deeper e a v s h w b t f side =
     let turn : TurnShape e a (branch w b t) = rw f at (shape-enter e a v s h) in
@@ -56,7 +56,7 @@ module _ (e : Env) (self self′ : Search) (below : Shapely e self) (a : Assignm
   afterFirst-agrees : (w : ℕ) (b : Bool) (x : Side) → OneOf w (undecided e a) → SideShape e (decide a w b) x → afterFirst e self a w b x ≡ afterFirst e self′ a w b x
   afterFirst-agrees w b (up s) one h =
       ap
-      (afterSecond e a w b (last (s .records) .given .decided))
+      (afterSecond e a w b (last (s .records) .decisions .decided))
       (agree w (not b) w (recorded (without w (s .records)) s) one (shape-second e a w b s h))
   afterFirst-agrees w b (ended x d s) one h = refl
 
@@ -64,9 +64,9 @@ module _ (e : Env) (self self′ : Search) (below : Shapely e self) (a : Assignm
   proceed-agrees : (x : Turn) → TurnShape e a x → proceed e self a x ≡ proceed e self′ a x
   proceed-agrees (back s) h = refl
   proceed-agrees (satisfiable s) h = refl
-  proceed-agrees (branch w b s) h = go (ltb (s .decisions) (e .budget)) refl
+  proceed-agrees (branch w b s) h = go (ltb (s .branchings) (e .allowance)) refl
     where
-      go : (z : Bool) → ltb (s .decisions) (e .budget) ≡ z → proceed e self a (branch w b s) ≡ proceed e self′ a (branch w b s)
+      go : (z : Bool) → ltb (s .branchings) (e .allowance) ≡ z → proceed e self a (branch w b s) ≡ proceed e self′ a (branch w b s)
       go false f = rw (f, proceed)
       go true f =
           let side = shape-branch e a w b s h in
@@ -117,8 +117,8 @@ deep-enough e (suc k) (suc m) l a v s h u =
 pub undecided-at-most-n : (e : Env) (a : Assignment) → ones (undecided e a) ≤ e .n
 undecided-at-most-n e a = undecided-few e a (undecided e a) (within-refl (undecided e a))
 
--- "so it never passes n"
+-- nesting never passes n
 pub never-passes : NeverPasses
-never-passes n book o h budget capacity k =
-    let e : Env = record { n = n; budget = budget; capacity = capacity } in
-    deep-enough e n (n + k) (omega arith) noDecisions 0 (start (given book o)) (shape-start n book o budget capacity h) (undecided-at-most-n e noDecisions)
+never-passes n book o h allowance capacity k =
+    let e : Env = record { n = n; allowance = allowance; capacity = capacity } in
+    deep-enough e n (n + k) (omega arith) noDecisions 0 (start (given book o)) (shape-start n book o allowance capacity h) (undecided-at-most-n e noDecisions)

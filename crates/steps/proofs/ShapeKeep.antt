@@ -1,4 +1,4 @@
--- What keeps the shape of a point: one more D-sequent with a larger set, one more proper clause, one more decision, and D-sequents left out.
+-- What keeps the shape of a point: one more D-sequent with a larger set, and one more proper clause.
 -- The list's last D-sequent is recorded at the point too, as what the empty list stands for is. So there are never more D-sequents than undecided
 -- variables, since each set has a variable more than the one before it.
 use mathlib.Core.Path.{_≡_, refl, ap}
@@ -14,7 +14,7 @@ use Rattle.words.proofs.Truth.{both-ways, refuted, confirmed}
 use Rattle.words.proofs.Sets.{within-zero, within-trans, minus-within, restricted, in-minus, minus-out}
 use Rattle.words.proofs.Count.{ones-zero, ones-within, ones-strict, ones-firstOf}
 use Rattle.steps.specs.Clause.{Clause, Assignment, restrict, DSequent, noDSequent, lastOr, last}
-use Rattle.steps.specs.State.{Env, State, undecided, redundant, live, append, added, counted}
+use Rattle.steps.specs.State.{Env, State, undecided, redundant, live, append, added}
 use Rattle.steps.specs.Shape.{Proper, Recorded, Growing, Shape, OneOf}
 use Rattle.steps.proofs.Places.{one-within, one-of-more}
 use Rattle.steps.proofs.ShapeLists.{last-has, growing-append, last-append}
@@ -30,8 +30,8 @@ last-recorded e a s h = last-has (Recorded e a) noDSequent (s .records) (none-re
 
 -- a recorded decision has the point's value
 pub recorded-value :
-    (e : Env) (a : Assignment) (d : DSequent) → Recorded e a d → (k : ℕ) → has (d .given .decided) k ≡ true → has (d .given .trues) k ≡ has (a .trues) k
-recorded-value e a d h k m = rw (h .values) (restricted (d .given .decided) (a .trues) k m)
+    (e : Env) (a : Assignment) (d : DSequent) → Recorded e a d → (k : ℕ) → has (d .decisions .decided) k ≡ true → has (d .decisions .trues) k ≡ has (a .trues) k
+recorded-value e a d h k m = rw (h .values) (restricted (d .decisions .decided) (a .trues) k m)
 
 -- undecided variables are among the n
 pub undecided-within : (e : Env) (a : Assignment) → Within (undecided e a) (firstOf (e .n))
@@ -76,7 +76,7 @@ another x y k f t e = both-ways (has y k) t (rw e at f)
 -- the set of a D-sequent that was appended is the redundant one
 pub append-redundant : (a : Assignment) (r k : ℕ) (s : State) → redundant (append a r k s) ≡ k
 append-redundant a r k s =
-    ap (λ (d : DSequent). d .redundant) (last-append noDSequent (record { given = restrict a r; redundant = k }) (s .records))
+    ap (λ (d : DSequent). d .redundant) (last-append noDSequent (record { decisions = restrict a r; redundant = k }) (s .records))
 
 -- one more D-sequent, of decisions of the point, with a larger set of undecided variables
 pub shape-append :
@@ -97,7 +97,7 @@ shape-append e a r k s h on off more new =
     }
   where
     new-one : DSequent
-    new-one = record { given = restrict a r; redundant = k }
+    new-one = record { decisions = restrict a r; redundant = k }
 
 -- one more clause
 pub shape-added : (e : Env) (a : Assignment) (c : Clause) (s : State) → Shape e a s → Proper (e .n) c → Shape e a (added c s)
@@ -109,10 +109,6 @@ shape-added e a c s h p =
       records = h .records;
       growing = h .growing;
     }
-
--- one more decision
-pub shape-counted : (e : Env) (a : Assignment) (s : State) → Shape e a s → Shape e a (counted s)
-shape-counted e a s h = record { trues = h .trues; decided = h .decided; clauses = h .clauses; records = h .records; growing = h .growing }
 
 -- ---- how many D-sequents there are
 

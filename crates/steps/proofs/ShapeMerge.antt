@@ -38,9 +38,9 @@ join-redundant e a w r s = go (eqb (redundant t) (minus (undecided e a) w)) refl
     t : State
     t = recorded (without w (s .records)) s
 
-    go : (b : Bool) → eqb (redundant t) (minus (undecided e a) w) ≡ b → redundant (joinOn e a w (bitOr r (last (s .records) .given .decided)) t) ≡ minus (undecided e a) w
+    go : (b : Bool) → eqb (redundant t) (minus (undecided e a) w) ≡ b → redundant (joinOn e a w (bitOr r (last (s .records) .decisions .decided)) t) ≡ minus (undecided e a) w
     go true h = rw (h, joinOn) (eqb-true (redundant t) (minus (undecided e a) w) h)
-    go false h = rw (h, joinOn) (append-redundant a (minus (bitOr r (last (s .records) .given .decided)) w) (minus (undecided e a) w) t)
+    go false h = rw (h, joinOn) (append-redundant a (minus (bitOr r (last (s .records) .decisions .decided)) w) (minus (undecided e a) w) t)
 
 -- so the branching's variable is live
 pub join-live : (e : Env) (a : Assignment) (w r : ℕ) (s : State) → OneOf w (undecided e a) → OneOf w (live e a (join e a w r s))
@@ -93,14 +93,14 @@ shape-join e a w b r s h t on = go (eqb (redundant below) others) refl
     point = shape-back e a w (not b) s h t
 
     both : ℕ
-    both = bitOr r (last (s .records) .given .decided)
+    both = bitOr r (last (s .records) .decisions .decided)
 
     decided-without : (k : ℕ) → has both k ≡ true → has w k ≡ false → has (a .decided) k ≡ true
     decided-without k m out =
         let two : Within both (bitOr (a .decided) w) =
         or-within
         r
-        (last (s .records) .given .decided)
+        (last (s .records) .decisions .decided)
         (bitOr (a .decided) w)
         (rw (decided-more a w b) at on)
         (rw (decided-more a w (not b)) at (last-recorded e (decide a w (not b)) s h .on)) in

@@ -37,7 +37,7 @@ module _ (e : Env) (self : Search) (below : Shapely e self) where
       a
       w
       b
-      (last (s .records) .given .decided)
+      (last (s .records) .decisions .decided)
       (self (decide a w (not b)) w (recorded (without w (s .records)) s))
       t
       one
@@ -49,9 +49,9 @@ module _ (e : Env) (self : Search) (below : Shapely e self) where
   shape-proceed : (a : Assignment) (x : Turn) → TurnShape e a x → SideShape e a (proceed e self a x)
   shape-proceed a (back s) h = h
   shape-proceed a (satisfiable s) h = h
-  shape-proceed a (branch w b s) h = go (ltb (s .decisions) (e .budget)) refl
+  shape-proceed a (branch w b s) h = go (ltb (s .branchings) (e .allowance)) refl
     where
-      go : (z : Bool) → ltb (s .decisions) (e .budget) ≡ z → SideShape e a (proceed e self a (branch w b s))
+      go : (z : Bool) → ltb (s .branchings) (e .allowance) ≡ z → SideShape e a (proceed e self a (branch w b s))
       go false f = rw (f, proceed) (h .0)
       go true f =
           let side = shape-branch e a w b s h in

@@ -40,25 +40,25 @@ values-other a w b r m =
 
 -- a D-sequent that does not name the variable is recorded below its decision
 recorded-down :
-    (e : Env) (a : Assignment) (w : ℕ) (b : Bool) (d : DSequent) → Recorded e a d → meets (d .given .decided) w ≡ false → meets (d .redundant) w ≡ false →
+    (e : Env) (a : Assignment) (w : ℕ) (b : Bool) (d : DSequent) → Recorded e a d → meets (d .decisions .decided) w ≡ false → meets (d .redundant) w ≡ false →
     Recorded e (decide a w b) d
 recorded-down e a w b d h r k =
     record {
-      on = rw (decided-more a w b) (within-trans (d .given .decided) (a .decided) (bitOr (a .decided) w) (h .on) (or-within-l (a .decided) w));
-      values = h .values ∙ sym (values-other a w b (d .given .decided) r);
+      on = rw (decided-more a w b) (within-trans (d .decisions .decided) (a .decided) (bitOr (a .decided) w) (h .on) (or-within-l (a .decided) w));
+      values = h .values ∙ sym (values-other a w b (d .decisions .decided) r);
       off = rw (undecided-fewer e a w b) (λ j m. in-minus (undecided e a) w j (h .off j m) (meets-false (d .redundant) w k j m));
     }
 
 -- and one below whose decisions do not name it is recorded above, and does not name it in its set
 pub recorded-up :
-    (e : Env) (a : Assignment) (w : ℕ) (b : Bool) (d : DSequent) → Recorded e (decide a w b) d → meets (d .given .decided) w ≡ false →
+    (e : Env) (a : Assignment) (w : ℕ) (b : Bool) (d : DSequent) → Recorded e (decide a w b) d → meets (d .decisions .decided) w ≡ false →
     Recorded e a d × (meets (d .redundant) w ≡ false)
 recorded-up e a w b d h r =
-    let on : Within (d .given .decided) (bitOr (a .decided) w) = rw (decided-more a w b) at (h .on) in
+    let on : Within (d .decisions .decided) (bitOr (a .decided) w) = rw (decided-more a w b) at (h .on) in
     let off : Within (d .redundant) (minus (undecided e a) w) = rw (undecided-fewer e a w b) at (h .off) in (
       record {
-        on = λ k m. ⊎-elim (λ p. p) (λ p. both-ways (has w k) p (meets-false (d .given .decided) w r k m)) (in-or (a .decided) w k (on k m));
-        values = h .values ∙ values-other a w b (d .given .decided) r;
+        on = λ k m. ⊎-elim (λ p. p) (λ p. both-ways (has w k) p (meets-false (d .decisions .decided) w r k m)) (in-or (a .decided) w k (on k m));
+        values = h .values ∙ values-other a w b (d .decisions .decided) r;
         off = λ k m. minus-within (undecided e a) w k (off k m);
       },
       meets-false-intro (d .redundant) w (λ k m. minus-out (undecided e a) w k (off k m)),
@@ -66,16 +66,16 @@ recorded-up e a w b d h r =
 
 -- the D-sequents of a list that do not name the variable
 pub without-member :
-    (w : ℕ) (rs : List DSequent) (d : DSequent) → List·Memᴰ d (without w rs) → List·Memᴰ d rs × (meets (d .given .decided) w ≡ false)
+    (w : ℕ) (rs : List DSequent) (d : DSequent) → List·Memᴰ d (without w rs) → List·Memᴰ d rs × (meets (d .decisions .decided) w ≡ false)
 unfolding without
 without-member w rs d m =
-    let h = filter-member (λ (r : DSequent). not (meets (r .given .decided) w)) rs d m in
-    (h .0, not-true (meets (d .given .decided) w) (h .1))
+    let h = filter-member (λ (r : DSequent). not (meets (r .decisions .decided) w)) rs d m in
+    (h .0, not-true (meets (d .decisions .decided) w) (h .1))
 
 -- their sets grow as before
 pub without-growing : (w : ℕ) (rs : List DSequent) → Growing 0 rs → Growing 0 (without w rs)
 unfolding without
-without-growing w rs g = growing-filter (λ (r : DSequent). not (meets (r .given .decided) w)) 0 rs g
+without-growing w rs g = growing-filter (λ (r : DSequent). not (meets (r .decisions .decided) w)) 0 rs g
 
 -- the true variables are decided after a decision exactly where the others were, or are the new one
 trues-after : (a : Assignment) (w : ℕ) (b : Bool) → Within (a .trues) (bitOr (a .decided) w) → Within (decide a w b .trues) (decide a w b .decided)
@@ -102,10 +102,10 @@ shape-first e a w b s h one =
     chosen : (k : ℕ) → has w k ≡ true → has (undecided e a) k ≡ true
     chosen k m = live-undecided e a s k (one-within w (live e a s) one k m)
 
-    unnamed : (d : DSequent) → List·Memᴰ d (s .records) → meets (d .given .decided) w ≡ false
+    unnamed : (d : DSequent) → List·Memᴰ d (s .records) → meets (d .decisions .decided) w ≡ false
     unnamed d m =
         meets-false-intro
-        (d .given .decided)
+        (d .decisions .decided)
         w
         (λ k p. refuted (has w k) (λ q. both-ways (has (a .decided) k) (h .records d m .on k p) (undecided-not-decided e a k (chosen k q))))
 

@@ -49,7 +49,7 @@ shape-root e t h =
 
 -- the starting point of a book and an order
 pub shape-start :
-    (n : ℕ) (book : List Clause) (o : Assumptions) (budget capacity : ℕ) → Input n book o →
-    Shape (record { n = n; budget = budget; capacity = capacity }) noDecisions (start (given book o))
-shape-start n book o budget capacity h =
-    shape-root (record { n = n; budget = budget; capacity = capacity }) (given book o) (given-proper n book o h)
+    (n : ℕ) (book : List Clause) (o : Assumptions) (allowance capacity : ℕ) → Input n book o →
+    Shape (record { n = n; allowance = allowance; capacity = capacity }) noDecisions (start (given book o))
+shape-start n book o allowance capacity h =
+    shape-root (record { n = n; allowance = allowance; capacity = capacity }) (given book o) (given-proper n book o h)

@@ -32,7 +32,7 @@ pub monotone-within :
     (e : Env) (a : Assignment) (s : State) (w r : ℕ) → Shape e a s → monotone a s w ≡ some r → Within r (a .decided)
 monotone-within e a s w r h m =
     let by = monotone-some a s w r m in
-    gathered (by .0) w a (redundant s) (last (s .records) .given .decided) (s .table) r (by .1) .only (a .decided) (λ c. keepers-within a c (h .trues)) (last-recorded e a s h .on)
+    gathered (by .0) w a (redundant s) (last (s .records) .decisions .decided) (s .table) r (by .1) .only (a .decided) (λ c. keepers-within a c (h .trues)) (last-recorded e a s h .on)
 
 -- the variable that the sweep takes is one of those listed, and passes
 pub firstMonotone-is :

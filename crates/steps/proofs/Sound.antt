@@ -22,13 +22,17 @@ Modeled t₀ = (x : ℕ) × Models x t₀
 
 -- a choice that has the decisions of d and keeps the clauses that are not dropped gives a model of t₀
 abbrev pub Gives : List Clause → List Clause → DSequent → Type 0
-Gives t₀ t d = (x : ℕ) → Agrees x (d .given) → ModelsBut x (d .redundant) t → Modeled t₀
+Gives t₀ t d = (x : ℕ) → Agrees x (d .decisions) → ModelsBut x (d .redundant) t → Modeled t₀
 
 -- every clause of s is one of t
 abbrev pub Among : List Clause → List Clause → Type 0
 Among s t = (c : Clause) → List·Memᴰ c s → List·Memᴰ c t
 
--- it does so in a larger table too
+-- they are where t begins with s
+pub begins-among : (s t more : List Clause) → t ≡ s ++ more → Among s t
+begins-among s t more is c m = subst (List·Memᴰ c) (sym is) (Memᴰ·append-left more m)
+
+-- what gives a model does so in a larger table too
 pub gives-more : (t₀ s t : List Clause) (d : DSequent) → Among s t → Gives t₀ s d → Gives t₀ t d
 gives-more t₀ s t d i g x h m = g x h (λ c l. m c (i c l))
 
@@ -43,14 +47,10 @@ abbrev pub SoundState : List Clause → State → Type 0
 SoundState t₀ s = Sound t₀ (s .table) (s .records)
 
 module _ (t₀ t : List Clause) (rs : List DSequent) (h : Sound t₀ t rs) where
-  -- every clause of t₀ is in the table
-  begins-among : Among t₀ t
-  begins-among c m = subst (List·Memᴰ c) (sym (h .begins .1)) (Memᴰ·append-left (h .begins .0) m)
-
   -- what the empty list stands for gives
   none-gives : Gives t₀ t noDSequent
   unfolding names
-  none-gives x e m = (x, λ c l. m c (begins-among c l) (meets-zero (vars c)))
+  none-gives x e m = (x, λ c l. m c (begins-among t₀ t (h .begins .0) (h .begins .1) c l) (meets-zero (vars c)))
 
   -- the last D-sequent gives
   pub last-gives : Gives t₀ t (last rs)

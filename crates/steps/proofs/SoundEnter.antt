@@ -50,7 +50,7 @@ falsified-decided e a c f =
 pub falsified-sound :
     (t₀ : List Clause) (e : Env) (a : Assignment) (c : Clause) (s : State) → SoundState t₀ s → List·Memᴰ c (s .table) → Falsified a c →
     SoundState t₀ (appendFalsified e a c s)
-falsified-sound t₀ e a c s sound m f = sound-append t₀ (s .table) (s .records) sound (record { given = restrict a (bitAnd (vars c) (a .decided)); redundant = undecided e a }) gives
+falsified-sound t₀ e a c s sound m f = sound-append t₀ (s .table) (s .records) sound (record { decisions = restrict a (bitAnd (vars c) (a .decided)); redundant = undecided e a }) gives
   where
     value : (x : ℕ) → Agrees x (restrict a (bitAnd (vars c) (a .decided))) → (k : ℕ) → has (vars c) k ≡ true → has x k ≡ has (a .trues) k
     value x agree k h =
@@ -58,7 +58,7 @@ falsified-sound t₀ e a c s sound m f = sound-append t₀ (s .table) (s .record
         let d : has (bitAnd (vars c) (a .decided)) k ≡ true = in-and (vars c) (a .decided) k h (f (l .0) k (l .1) .0) in
         agree k d ∙ restricted (bitAnd (vars c) (a .decided)) (a .trues) k d
 
-    gives : Gives t₀ (s .table) (record { given = restrict a (bitAnd (vars c) (a .decided)); redundant = undecided e a })
+    gives : Gives t₀ (s .table) (record { decisions = restrict a (bitAnd (vars c) (a .decided)); redundant = undecided e a })
     gives x agree keeps = absurd (falsified-never x a c f (value x agree) (keeps c m (falsified-decided e a c f)))
 
 -- ---- no clause falsified
@@ -86,7 +86,7 @@ satisfiable-modeled t₀ e a s shape sound complete unfalsified =
     known : Recorded e a (last (s .records))
     known = last-recorded e a s shape
 
-    agree : Agrees (a .trues) (last (s .records) .given)
+    agree : Agrees (a .trues) (last (s .records) .decisions)
     agree k h = sym (recorded-value e a (last (s .records)) known k h)
 
 -- ---- steps 2 to 5

@@ -34,7 +34,7 @@ module _ (e : Env) (a : Assignment) (w : ℕ) (one : OneOf w (undecided e a)) (t
   -- a side's last D-sequent gives a model from a choice with the side's value of the variable and the side's decisions less w
   side-gives :
       (t₀ t : List Clause) (b : Bool) (s : State) → Shape e (decide a w b) s → Complete e (decide a w b) s → Gives t₀ t (last (s .records)) → (r : ℕ) →
-      Within (last (s .records) .given .decided) r → (x : ℕ) → has x (one .var) ≡ b → Agrees x (restrict a (minus r w)) →
+      Within (last (s .records) .decisions .decided) r → (x : ℕ) → has x (one .var) ≡ b → Agrees x (restrict a (minus r w)) →
       ModelsBut x (minus (undecided e a) w) t → Modeled t₀
   side-gives t₀ t b s shape complete gives r within x value agree keeps =
       gives x agree′ (λ c m n. keeps c m (subst (λ (u : ℕ). names u c ≡ false) (complete ∙ undecided-fewer e a w b) n))
@@ -48,7 +48,7 @@ module _ (e : Env) (a : Assignment) (w : ℕ) (one : OneOf w (undecided e a)) (t
           let m : has (minus r w) k ≡ true = in-minus r w k h f in
           agree k m ∙ restricted (minus r w) (a .trues) k m ∙ sym (trues-other a w b k f)
 
-      agree′ : Agrees x (last (s .records) .given)
+      agree′ : Agrees x (last (s .records) .decisions)
       agree′ k h =
           side-value k (within k h) (has w k) refl ∙ sym (recorded-value e (decide a w b) (last (s .records)) known k h)
 
@@ -66,26 +66,26 @@ module _ (e : Env) (a : Assignment) (w : ℕ) (one : OneOf w (undecided e a)) (t
     where
       -- both sides' last decisions
       abbrev both : ℕ
-      both = bitOr (last (first .records) .given .decided) (last (second .records) .given .decided)
+      both = bitOr (last (first .records) .decisions .decided) (last (second .records) .decisions .decided)
 
       -- the join gives
-      join-gives : Gives t₀ (second .table) (record { given = restrict a (minus both w); redundant = minus (undecided e a) w })
+      join-gives : Gives t₀ (second .table) (record { decisions = restrict a (minus both w); redundant = minus (undecided e a) w })
       join-gives x agree keeps =
           ⊎-elim
           (λ is.
           side-gives t₀ (second .table) b first shape-one complete-one
           (gives-more t₀ (first .table) (second .table) (last (first .records)) more (last-gives t₀ (first .table) (first .records) sound-one))
           both
-          (or-within-l (last (first .records) .given .decided) (last (second .records) .given .decided))
+          (or-within-l (last (first .records) .decisions .decided) (last (second .records) .decisions .decided))
           x is agree keeps)
           (λ is.
           side-gives t₀ (second .table) (not b) second shape-two complete-two (last-gives t₀ (second .table) (second .records) sound-two) both
-          (or-within-r (last (first .records) .given .decided) (last (second .records) .given .decided))
+          (or-within-r (last (first .records) .decisions .decided) (last (second .records) .decisions .decided))
           x is agree keeps)
           (same-or-not (has x (one .var)) b)
 
       -- the join stays sound
-      pub join-sound : SoundState t₀ (join e a w (last (first .records) .given .decided) second)
+      pub join-sound : SoundState t₀ (join e a w (last (first .records) .decisions .decided) second)
       unfolding join
       join-sound = go (eqb (redundant kept) (minus (undecided e a) w)) refl
         where
@@ -100,4 +100,4 @@ module _ (e : Env) (a : Assignment) (w : ℕ) (one : OneOf w (undecided e a)) (t
           go true f = rw (f, joinOn) sound
           go false f =
               rw (f, joinOn)
-              (sound-append t₀ (second .table) (without w (second .records)) sound (record { given = restrict a (minus both w); redundant = minus (undecided e a) w }) join-gives)
+              (sound-append t₀ (second .table) (without w (second .records)) sound (record { decisions = restrict a (minus both w); redundant = minus (undecided e a) w }) join-gives)

@@ -2,9 +2,8 @@
 -- struck as in the sweep. If it fails, both sides have a falsified clause, and their resolvent follows and is falsified here: an empty one shows that
 -- there is no model, and any other strikes every undecided variable.
 use mathlib.Core.Path.{_≡_, refl, ap, ap₂, _∙_, subst}
-use mathlib.Core.Logic.{⊎-elim}
-use mathlib.Core.Bool.{Bool, true, false, not, Bool·not-not}
-use mathlib.Core.List.{List, [], _∷_, List·Memᴰ, List·Memᴰ·head, List·Memᴰ·append-cases, List·Memᴰ·eq-of-singleton, Memᴰ·append-left, Memᴰ·append-right}
+use mathlib.Core.Bool.{Bool, true, false, not}
+use mathlib.Core.List.{List, List·Memᴰ, List·Memᴰ·head, Memᴰ·append-right}
 use mathlib.Core.Option.{Option, some, none}
 use Prim.Native.Nat.{ℕ}
 use lib.Bits.{bitAnd, bitOr}
@@ -12,11 +11,11 @@ use lib.Dec.{eqb, ltb}
 use lib.ListN.{length}
 use borrow.Author.Tests.{eqb-true}
 use Rattle.words.specs.Words.{has, minus, isZero, Within}
-use Rattle.words.proofs.Truth.{and-left, and-right}
+use Rattle.words.proofs.Truth.{and-left, and-right, clash}
 use Rattle.words.proofs.Sets.{within-antisym, or-within, or-within-l, or-within-r, minus-within, in-minus}
 use Rattle.steps.specs.Lists.{find}
-use Rattle.steps.specs.Clause.{Clause, vars, Assignment, decide, names, last}
-use Rattle.steps.specs.State.{Env, State, Ending, Ending.can, Ending.cannot, Ending.outOfDecisions, Ending.outOfClauses, Side, Side.up, Side.ended, undecided, redundant, added}
+use Rattle.steps.specs.Clause.{Clause, vars, Assignment, decide, last}
+use Rattle.steps.specs.State.{Env, State, Ending, Ending.can, Ending.cannot, Ending.outOfBranchings, Ending.outOfClauses, Side, Side.up, Side.ended, undecided, redundant, added}
 use Rattle.steps.specs.Sweep.{monotone}
 use Rattle.steps.specs.Enter.{falsifiedNaming}
 use Rattle.steps.specs.Merge.{same, resolvent, settle, learn, resolve, mergeOn, join, merge}
@@ -27,58 +26,49 @@ use Rattle.steps.proofs.ListLaws.{find-some}
 use Rattle.steps.proofs.ShapeKeep.{last-recorded, undecided-free, append-redundant}
 use Rattle.steps.proofs.ShapeMerge.{join-redundant, shape-join}
 use Rattle.steps.proofs.Models.{Satisfied, Models}
-use Rattle.steps.proofs.Literals.{Falsified, naming-some, naming-none}
+use Rattle.steps.proofs.Literals.{Falsified, naming-some}
 use Rattle.steps.proofs.Sound.{Modeled, Among, SoundState, sound-added}
 use Rattle.steps.proofs.SoundSweep.{strike-sound}
-use Rattle.steps.proofs.Monotone.{active, monotone-none}
 use Rattle.steps.proofs.SoundEnter.{Complete, falsified-sound}
 use Rattle.steps.proofs.SoundJoin.{join-sound}
 use Rattle.steps.proofs.Resolvent.{resolvent-falsified}
-use Rattle.steps.proofs.SoundResolve.{active-falsified, resolvent-follows}
-use Rattle.steps.proofs.LockstepGrows.{listed-join}
+use Rattle.steps.proofs.SoundResolve.{resolvent-follows}
+use Rattle.steps.proofs.Parents.{parent}
 
 -- ---- what a side comes to
 
--- no clause of the table is empty
-abbrev pub NoneEmpty : List Clause → Type 0
-NoneEmpty t = (c : Clause) → List·Memᴰ c t → isEmpty c ≡ false
-
--- back up from a point: t is the table from which it started
-pub record Finished (t₀ : List Clause) (e : Env) (a : Assignment) (t : List Clause) (s : State) : Type 0 where
+-- back up from a point
+pub record Finished (t₀ : List Clause) (e : Env) (a : Assignment) (s : State) : Type 0 where
   pub sound : SoundState t₀ s
   pub complete : Complete e a s
-  pub nonempty : NoneEmpty (s .table)
-  pub more : Among t (s .table)
 
 -- the end of the run: "can" with a model, "cannot" with the empty clause
 abbrev pub EndSound : List Clause → Ending → State → Type 0
 EndSound t₀ can s = SoundState t₀ s × Modeled t₀
 EndSound t₀ cannot s = SoundState t₀ s × ((c : Clause) × List·Memᴰ c (s .table) × (isEmpty c ≡ true))
-EndSound t₀ outOfDecisions s = SoundState t₀ s
+EndSound t₀ outOfBranchings s = SoundState t₀ s
 EndSound t₀ outOfClauses s = SoundState t₀ s
 
 -- either
-abbrev pub SideSound : List Clause → Env → Assignment → List Clause → Side → Type 0
-SideSound t₀ e a t (up s) = Finished t₀ e a t s
-SideSound t₀ e a t (ended x d s) = EndSound t₀ x s
+abbrev pub SideSound : List Clause → Env → Assignment → Side → Type 0
+SideSound t₀ e a (up s) = Finished t₀ e a s
+SideSound t₀ e a (ended x d s) = EndSound t₀ x s
 
 -- ---- the clause that falsifies the point
 
 -- such a clause settles the point
 settle-sound :
-    (t₀ : List Clause) (e : Env) (a : Assignment) (t : List Clause) (c : Clause) (s : State) → SoundState t₀ s → List·Memᴰ c (s .table) → Falsified a c →
-    (isEmpty c ≡ false → NoneEmpty (s .table)) → Among t (s .table) → SideSound t₀ e a t (settle e a c s)
-settle-sound t₀ e a t c s sound m f nonempty more = go (isZero (vars c)) refl
+    (t₀ : List Clause) (e : Env) (a : Assignment) (c : Clause) (s : State) → SoundState t₀ s → List·Memᴰ c (s .table) → Falsified a c →
+    SideSound t₀ e a (settle e a c s)
+settle-sound t₀ e a c s sound m f = go (isZero (vars c)) refl
   where
-    go : (z : Bool) → isZero (vars c) ≡ z → SideSound t₀ e a t (settle e a c s)
+    go : (z : Bool) → isZero (vars c) ≡ z → SideSound t₀ e a (settle e a c s)
     go true z = rw (z, settle) (sound, (c, m, z))
     go false z =
         rw (z, settle)
         (record {
           sound = falsified-sound t₀ e a c s sound m f;
           complete = append-redundant a (bitAnd (vars c) (a .decided)) (undecided e a) s;
-          nonempty = nonempty z;
-          more = more;
         })
 
 -- clauses with the same literals are equal
@@ -91,23 +81,21 @@ same-equal c d e =
 
 -- and so does the resolvent, from the table or added to it
 learn-sound :
-    (t₀ : List Clause) (e : Env) (a : Assignment) (t : List Clause) (s : State) (c : Clause) → SoundState t₀ s → NoneEmpty (s .table) → Among t (s .table) →
-    ((x : ℕ) → Models x (s .table) → Satisfied x c) → Falsified a c → (o : Option Clause) → find (same c) (s .table) ≡ o → SideSound t₀ e a t (learn e a s c o)
-learn-sound t₀ e a t s c sound nonempty more follows f (some d) g =
+    (t₀ : List Clause) (e : Env) (a : Assignment) (s : State) (c : Clause) → SoundState t₀ s → ((x : ℕ) → Models x (s .table) → Satisfied x c) → Falsified a c →
+    (o : Option Clause) → find (same c) (s .table) ≡ o → SideSound t₀ e a (learn e a s c o)
+learn-sound t₀ e a s c sound follows f (some d) g =
     let found = find-some (same c) (s .table) d g in
-    settle-sound t₀ e a t d s sound (found .0) (subst (Falsified a) (same-equal c d (found .1)) f) (λ z. nonempty) more
-learn-sound t₀ e a t s c sound nonempty more follows f none g = go (ltb (length (s .table)) (e .capacity)) refl
+    settle-sound t₀ e a d s sound (found .0) (subst (Falsified a) (same-equal c d (found .1)) f)
+learn-sound t₀ e a s c sound follows f none g = go (ltb (length (s .table)) (e .capacity)) refl
   where
-    go : (p : Bool) → ltb (length (s .table)) (e .capacity) ≡ p → SideSound t₀ e a t (learn e a s c none)
+    go : (p : Bool) → ltb (length (s .table)) (e .capacity) ≡ p → SideSound t₀ e a (learn e a s c none)
     go false p = rw (p, learn) sound
     go true p =
         rw (p, learn)
-        (settle-sound t₀ e a t c (added c s)
+        (settle-sound t₀ e a c (added c s)
         (sound-added t₀ (s .table) (s .records) sound c follows)
         (Memᴰ·append-right (s .table) (List·Memᴰ·head refl))
-        f
-        (λ z d m. ⊎-elim (nonempty d) (λ l. ap isEmpty (List·Memᴰ·eq-of-singleton l) ∙ z) (List·Memᴰ·append-cases (s .table) m))
-        (λ d m. Memᴰ·append-left (c ∷ []) (more d m)))
+        f)
 
 -- ---- coming together
 
@@ -125,43 +113,30 @@ module _
     (a : Assignment)
     (w : ℕ)
     (one : OneOf w (undecided e a))
-    (t : List Clause)
     (j : State)
     (shape : Shape e a j)
     (sound : SoundState t₀ j)
-    (nonempty : NoneEmpty (j .table))
-    (more : Among t (j .table))
     (others : redundant j ≡ minus (undecided e a) w)
   where
-    -- where the test fails, the side with w's value b falsifies a clause that names w
-    parent :
-        monotone a j w ≡ none → (b : Bool) →
-        (c : Clause) × List·Memᴰ c (j .table) × (names w c ≡ true) × Falsified (decide a w b) c
-    parent test b =
-        let r = last (j .records) .given .decided in
-        let x = active (not b) w a (redundant j) r (j .table) (monotone-none a j w test (not b)) in
-        subst (λ (p : Bool). (c : Clause) × List·Memᴰ c (j .table) × (names w c ≡ true) × Falsified (decide a w p) c) (Bool·not-not b)
-        (active-falsified e a w one (shape .trues) (j .table) (shape .clauses) (not b) (rw others at x))
-
-    -- so the resolvent settles the point
+    -- where the test fails, the resolvent of what the sides falsify settles the point
     resolve-sound :
         monotone a j w ≡ none → (b : Bool) (c d : Option Clause) → falsifiedNaming w (decide a w b) (j .table) ≡ c →
-        falsifiedNaming w (decide a w (not b)) (j .table) ≡ d → SideSound t₀ e a t (resolve e a w j c d)
+        falsifiedNaming w (decide a w (not b)) (j .table) ≡ d → SideSound t₀ e a (resolve e a w j c d)
     resolve-sound test b none d f g =
-        let x = parent test b in absurd (naming-none w (decide a w b) (j .table) f (x .0) (x .1) (x .2) (x .3))
+        let x = parent e a w one j shape others test b in clash cc
     resolve-sound test b (some c) none f g =
-        let x = parent test (not b) in absurd (naming-none w (decide a w (not b)) (j .table) g (x .0) (x .1) (x .2) (x .3))
+        let x = parent e a w one j shape others test (not b) in clash cc
     resolve-sound test b (some c) (some d) f g =
         let x = naming-some w (decide a w b) (j .table) c f in
         let y = naming-some w (decide a w (not b)) (j .table) d g in
-        learn-sound t₀ e a t j (resolvent w c d) sound nonempty more
+        learn-sound t₀ e a j (resolvent w c d) sound
         (λ z m. resolvent-follows e a w one (shape .trues) b c d (x .1) (y .1) z (m c (x .0)) (m d (y .0)))
         (resolvent-falsified a w b c d (x .1) (y .1))
         (find (same (resolvent w c d)) (j .table))
         refl
 
     -- by the test, or else by the resolvent
-    mergeOn-sound : (b : Bool) (o : Option ℕ) → monotone a j w ≡ o → SideSound t₀ e a t (mergeOn e a w b j o)
+    mergeOn-sound : (b : Bool) (o : Option ℕ) → monotone a j w ≡ o → SideSound t₀ e a (mergeOn e a w b j o)
     mergeOn-sound b (some r) f =
         record {
           sound = strike-sound t₀ e a j shape sound w (undecided-free e a w one) r f;
@@ -169,26 +144,21 @@ module _
               append-redundant a r (bitOr (redundant j) w) j
               ∙ ap (λ (k : ℕ). bitOr k w) others
               ∙ with-removed (undecided e a) w (one-within w (undecided e a) one);
-          nonempty = nonempty;
-          more = more;
         }
     mergeOn-sound b none f =
         resolve-sound f b (falsifiedNaming w (decide a w b) (j .table)) (falsifiedNaming w (decide a w (not b)) (j .table)) refl refl
 
 -- step 7, from what the two sides came to
 pub merge-sound :
-    (t₀ : List Clause) (e : Env) (a : Assignment) (w : ℕ) (b : Bool) → OneOf w (undecided e a) → Within (a .trues) (a .decided) → (t : List Clause) →
-    (first second : State) → Shape e (decide a w b) first → Finished t₀ e (decide a w b) t first → Shape e (decide a w (not b)) second →
-    Finished t₀ e (decide a w (not b)) (first .table) second → SideSound t₀ e a t (merge e a w b (last (first .records) .given .decided) second)
+    (t₀ : List Clause) (e : Env) (a : Assignment) (w : ℕ) (b : Bool) → OneOf w (undecided e a) → Within (a .trues) (a .decided) → (first second : State) →
+    Among (first .table) (second .table) → Shape e (decide a w b) first → Finished t₀ e (decide a w b) first → Shape e (decide a w (not b)) second →
+    Finished t₀ e (decide a w (not b)) second → SideSound t₀ e a (merge e a w b (last (first .records) .decisions .decided) second)
 unfolding merge
-merge-sound t₀ e a w b one trues t first second shape-one done-one shape-two done-two =
-    let r = last (first .records) .given .decided in
-    let is = listed-join e a w r second .table in
-    mergeOn-sound t₀ e a w one t (join e a w r second)
+merge-sound t₀ e a w b one trues first second more shape-one done-one shape-two done-two =
+    let r = last (first .records) .decisions .decided in
+    mergeOn-sound t₀ e a w one (join e a w r second)
     (shape-join e a w b r second shape-two trues (last-recorded e (decide a w b) first shape-one .on))
-    (join-sound e a w one trues t₀ b first second shape-one (done-one .complete) (done-one .sound) shape-two (done-two .complete) (done-two .sound) (done-two .more))
-    (rw is (done-two .nonempty))
-    (λ c m. rw is (done-two .more c (done-one .more c m)))
+    (join-sound e a w one trues t₀ b first second shape-one (done-one .complete) (done-one .sound) shape-two (done-two .complete) (done-two .sound) more)
     (join-redundant e a w r second)
     b
     (monotone a (join e a w r second) w)

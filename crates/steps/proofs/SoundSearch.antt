@@ -27,90 +27,86 @@ use Rattle.steps.proofs.ShapeSides.{shape-second, without-member, shape
 use Rattle.steps.proofs.ShapeSearch.{Shapely, shape-search}
 use Rattle.steps.proofs.Nesting.{undecided-one-fewer}
 use Rattle.steps.proofs.Literals.{literal-of, names-false}
-use Rattle.steps.proofs.Sound.{Modeled, SoundState, last-gives, sound-fewer}
+use Rattle.steps.proofs.Sound.{Modeled, Among, begins-among, SoundState, last-gives, sound-fewer}
 use Rattle.steps.proofs.SoundEnter.{TurnSound, enter-sound}
-use Rattle.steps.proofs.SoundMerge.{NoneEmpty, Finished, SideSound, merge-sound}
-use Rattle.steps.proofs.LockstepGrows.{turned, listed-enter}
+use Rattle.steps.proofs.SoundMerge.{Finished, SideSound, merge-sound}
+use Rattle.steps.proofs.NoneEmpty.{NoneEmpty}
+use Rattle.steps.proofs.LockstepGrows.{at, grows-refl, GrowsAll, grows-search}
 
 -- a search that is right from sound points with fewer than k undecided variables
 abbrev pub RightBelow : List Clause → Env → ℕ → Search → Type 0
 RightBelow t₀ e k self =
-    (a : Assignment) (v : ℕ) (s : State) → ones (undecided e a) < k → Shape e a s → SoundState t₀ s → SideSound t₀ e a (s .table) (self a v s)
+    (a : Assignment) (v : ℕ) (s : State) → ones (undecided e a) < k → Shape e a s → SoundState t₀ s → SideSound t₀ e a (self a v s)
 
-module _ (t₀ : List Clause) (e : Env) (k : ℕ) (self : Search) (shapely : Shapely e self) (right : RightBelow t₀ e k self) where
+module _ (t₀ : List Clause) (e : Env) (k : ℕ) (self : Search) (shapely : Shapely e self) (grow : GrowsAll self) (right : RightBelow t₀ e k self) where
   -- after the second side
   afterSecond-sound :
-      (a : Assignment) (w : ℕ) (b : Bool) → OneOf w (undecided e a) → Within (a .trues) (a .decided) → (t : List Clause) (first : State) →
-      Shape e (decide a w b) first → Finished t₀ e (decide a w b) t first → (x : Side) → SideShape e (decide a w (not b)) x →
-      SideSound t₀ e (decide a w (not b)) (first .table) x → SideSound t₀ e a t (afterSecond e a w b (last (first .records) .given .decided) x)
-  afterSecond-sound a w b one trues t first shape done (up s) h g = merge-sound t₀ e a w b one trues t first s shape done h g
-  afterSecond-sound a w b one trues t first shape done (ended x d s) h g = g
+      (a : Assignment) (w : ℕ) (b : Bool) → OneOf w (undecided e a) → Within (a .trues) (a .decided) → (first : State) → Shape e (decide a w b) first →
+      Finished t₀ e (decide a w b) first → (x : Side) → Among (first .table) (at x .table) → SideShape e (decide a w (not b)) x →
+      SideSound t₀ e (decide a w (not b)) x → SideSound t₀ e a (afterSecond e a w b (last (first .records) .decisions .decided) x)
+  afterSecond-sound a w b one trues first shape done (up s) more h g = merge-sound t₀ e a w b one trues first s more shape done h g
+  afterSecond-sound a w b one trues first shape done (ended x d s) more h g = g
 
   -- after the first side
   afterFirst-sound :
-      (a : Assignment) (w : ℕ) (b : Bool) → OneOf w (undecided e a) → Within (a .trues) (a .decided) → ones (undecided e a) ≤ k → (t : List Clause) (x : Side) →
-      SideShape e (decide a w b) x → SideSound t₀ e (decide a w b) t x → SideSound t₀ e a t (afterFirst e self a w b x)
-  afterFirst-sound a w b one trues few t (up s) h g =
+      (a : Assignment) (w : ℕ) (b : Bool) → OneOf w (undecided e a) → Within (a .trues) (a .decided) → ones (undecided e a) ≤ k → (x : Side) →
+      SideShape e (decide a w b) x → SideSound t₀ e (decide a w b) x → SideSound t₀ e a (afterFirst e self a w b x)
+  afterFirst-sound a w b one trues few (up s) h g =
       let next = recorded (without w (s .records)) s in
       let shape = shape-second e a w b s h in
-      afterSecond-sound a w b one trues t s h g (self (decide a w (not b)) w next)
+      let grown = grow (decide a w (not b)) w next in
+      afterSecond-sound a w b one trues s h g (self (decide a w (not b)) w next)
+      (begins-among (s .table) _ (grown .more) (grown .table))
       (shapely (decide a w (not b)) w next shape)
       (right (decide a w (not b)) w next (omega (arith, undecided-one-fewer e a w (not b) one)) shape
       (sound-fewer t₀ (s .table) (s .records) (g .sound) (without w (s .records)) (λ d m. without-member w (s .records) d m .0)))
-  afterFirst-sound a w b one trues few t (ended x d s) h g = g
+  afterFirst-sound a w b one trues few (ended x d s) h g = g
 
   -- from what is found at the point
-  proceed-sound :
-      (a : Assignment) → ones (undecided e a) ≤ k → (t : List Clause) → NoneEmpty t → (x : Turn) → turned x .table ≡ t → TurnShape e a x → TurnSound t₀ e a x →
-      SideSound t₀ e a t (proceed e self a x)
-  proceed-sound a few t nonempty (back s) is h g =
-      record { sound = g .0; complete = g .1; nonempty = rw is nonempty; more = λ c m. rw is m }
-  proceed-sound a few t nonempty (satisfiable s) is h g = g
-  proceed-sound a few t nonempty (branch w b s) is h g = go (ltb (s .decisions) (e .budget)) refl
+  proceed-sound : (a : Assignment) → ones (undecided e a) ≤ k → (x : Turn) → TurnShape e a x → TurnSound t₀ e a x → SideSound t₀ e a (proceed e self a x)
+  proceed-sound a few (back s) h g = record { sound = g .0; complete = g .1 }
+  proceed-sound a few (satisfiable s) h g = g
+  proceed-sound a few (branch w b s) h g = go (ltb (s .branchings) (e .allowance)) refl
     where
-      go : (z : Bool) → ltb (s .decisions) (e .budget) ≡ z → SideSound t₀ e a t (proceed e self a (branch w b s))
+      go : (z : Bool) → ltb (s .branchings) (e .allowance) ≡ z → SideSound t₀ e a (proceed e self a (branch w b s))
       go false f = rw (f, proceed) g
       go true f =
           let side = shape-branch e a w b s h in
           rw (f, proceed)
-          (afterFirst-sound a w b (side .0) (h .0 .trues) few t (self (decide a w b) 0 (counted s))
+          (afterFirst-sound a w b (side .0) (h .0 .trues) few (self (decide a w b) 0 (counted s))
           (shapely (decide a w b) 0 (counted s) (side .1))
-          (subst (λ (q : List Clause). SideSound t₀ e (decide a w b) q (self (decide a w b) 0 (counted s))) is
-          (right (decide a w b) 0 (counted s) (omega (arith, undecided-one-fewer e a w b (side .0))) (side .1) g)))
+          (right (decide a w b) 0 (counted s) (omega (arith, undecided-one-fewer e a w b (side .0))) (side .1) g))
 
   -- a point is right if the search below it is
-  step-sound :
-      (a : Assignment) (v : ℕ) (s : State) → ones (undecided e a) ≤ k → Shape e a s → SoundState t₀ s → SideSound t₀ e a (s .table) (step e self a v s)
+  step-sound : (a : Assignment) (v : ℕ) (s : State) → ones (undecided e a) ≤ k → Shape e a s → SoundState t₀ s → SideSound t₀ e a (step e self a v s)
   unfolding step
   step-sound a v s few shape sound = go (any isEmpty (s .table)) refl
     where
-      go : (z : Bool) → any isEmpty (s .table) ≡ z → SideSound t₀ e a (s .table) (step e self a v s)
+      go : (z : Bool) → any isEmpty (s .table) ≡ z → SideSound t₀ e a (step e self a v s)
       go true f = rw (f, step) (sound, any-true isEmpty (s .table) f)
-      go false f =
-          rw (f, step)
-          (proceed-sound a few (s .table) (any-false isEmpty (s .table) f) (enter e a v s) (listed-enter e a v s .table) (shape-enter e a v s shape) (enter-sound t₀ e a v s shape sound))
+      go false f = rw (f, step) (proceed-sound a few (enter e a v s) (shape-enter e a v s shape) (enter-sound t₀ e a v s shape sound))
 
 -- so the search is right
 pub search-sound :
     (t₀ : List Clause) (e : Env) (k : ℕ) (a : Assignment) (v : ℕ) (s : State) → ones (undecided e a) ≤ k → Shape e a s → SoundState t₀ s →
-    SideSound t₀ e a (s .table) (search e k a v s)
+    SideSound t₀ e a (search e k a v s)
 unfolding search
-search-sound t₀ e zero = step-sound t₀ e zero (λ a v s. up s) (λ a v s h. h) (λ a v s few. absurd (omega arith))
+search-sound t₀ e zero = step-sound t₀ e zero (λ a v s. up s) (λ a v s h. h) (λ a v s. grows-refl s) (λ a v s few. absurd (omega arith))
 search-sound t₀ e (suc k) =
-    step-sound t₀ e (suc k) (search e k) (shape-search e k) (λ a v s few. search-sound t₀ e k a v s (omega arith))
+    step-sound t₀ e (suc k) (search e k) (shape-search e k) (grows-search e k) (λ a v s few. search-sound t₀ e k a v s (omega arith))
 
 -- back up from the starting point means a model
 pub root-modeled :
-    (t₀ : List Clause) (e : Env) (t : List Clause) (s : State) → Shape e noDecisions s → Finished t₀ e noDecisions t s → Modeled t₀
+    (t₀ : List Clause) (e : Env) (s : State) → Shape e noDecisions s → NoneEmpty s → Finished t₀ e noDecisions s → Modeled t₀
 unfolding undecided
-root-modeled t₀ e t s shape done =
+root-modeled t₀ e s shape nonempty done =
     last-gives t₀ (s .table) (s .records) (done .sound) 0
     (λ k h. both-ways (has 0 k) (last-recorded e noDecisions s shape .on k h) (has-zero k))
     (λ c m n. absurd (some-named c m n))
   where
     some-named : (c : Clause) → List·Memᴰ c (s .table) → names (redundant s) c ≡ false → ⊥
     some-named c m n =
-        let k = some-member (vars c) (done .nonempty c m) in
+        let k = some-member (vars c) (any-false isEmpty (s .table) nonempty c m) in
         let l = literal-of c (k .0) (k .1) in
         both-ways (has (undecided e noDecisions) (k .0))
         (in-minus (firstOf (e .n)) 0 (k .0) (shape .clauses c m .named (k .0) (k .1)) (has-zero (k .0)))

@@ -65,15 +65,15 @@ module _
   where
     -- the D-sequent that strikes w gives
     strike-gives :
-        (b : Bool) (r : ℕ) → inactiveBy a s w b ≡ some r → Gives t₀ (s .table) (record { given = restrict a r; redundant = bitOr (redundant s) w })
+        (b : Bool) (r : ℕ) → inactiveBy a s w b ≡ some r → Gives t₀ (s .table) (record { decisions = restrict a r; redundant = bitOr (redundant s) w })
     unfolding names
     strike-gives b r test x agree keeps = last-gives t₀ (s .table) (s .records) sound y agree′ keeps′
       where
         y : ℕ
         y = assign x w (not b)
 
-        found : Gathered b w a (redundant s) (last (s .records) .given .decided) (s .table) r
-        found = gathered b w a (redundant s) (last (s .records) .given .decided) (s .table) r test
+        found : Gathered b w a (redundant s) (last (s .records) .decisions .decided) (s .table) r
+        found = gathered b w a (redundant s) (last (s .records) .decisions .decided) (s .table) r test
 
         known : Recorded e a (last (s .records))
         known = last-recorded e a s shape
@@ -82,7 +82,7 @@ module _
         value : (k : ℕ) → has (a .decided) k ≡ true → has r k ≡ true → has y k ≡ has (a .trues) k
         value k d h = assign-out x w (not b) k (free k d) ∙ agree k h ∙ restricted r (a .trues) k h
 
-        agree′ : Agrees y (last (s .records) .given)
+        agree′ : Agrees y (last (s .records) .decisions)
         agree′ k h =
             value k (known .on k h) (found .start k h) ∙ sym (recorded-value e a (last (s .records)) known k h)
 
@@ -114,7 +114,7 @@ module _
     pub strike-sound : (r : ℕ) → monotone a s w ≡ some r → SoundState t₀ (strike a w r s)
     strike-sound r test =
         let by = monotone-some a s w r test in
-        sound-append t₀ (s .table) (s .records) sound (record { given = restrict a r; redundant = bitOr (redundant s) w }) (strike-gives (by .0) r (by .1))
+        sound-append t₀ (s .table) (s .records) sound (record { decisions = restrict a r; redundant = bitOr (redundant s) w }) (strike-gives (by .0) r (by .1))
 
 -- ---- the sweep
 

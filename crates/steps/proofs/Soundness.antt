@@ -11,18 +11,18 @@ use native.Mathlib.Nat.{zero-lt-suc}
 use lib.ListN.{length, drop}
 use lib.Seq.{drop-append-seam}
 use borrow.Author.Tests.{lt-ltb}
-use Rattle.words.specs.Words.{isZero, has, meets, firstOf}
+use Rattle.words.specs.Words.{isZero, has, firstOf}
 use Rattle.words.proofs.Truth.{both-ways, refuted, clash}
 use Rattle.words.proofs.Membership.{has-zero, has-firstOf}
-use Rattle.words.proofs.Sets.{within-zero, meets-false-intro, member-nonzero, zero-meets}
+use Rattle.words.proofs.Sets.{within-refl, within-trans, within-zero, and-within-l, meets-false-intro, member-nonzero, zero-meets}
 use Rattle.steps.specs.Clause.{Clause, vars, Assignment, names, DSequent}
-use Rattle.steps.specs.State.{Env, State, Ending, Ending.can, Ending.cannot, Ending.outOfDecisions, Ending.outOfClauses, Side, Side.up, Side.ended}
+use Rattle.steps.specs.State.{Env, State, Ending, Ending.can, Ending.cannot, Ending.outOfBranchings, Ending.outOfClauses, Side, Side.up, Side.ended, undecided}
 use Rattle.steps.specs.Search.{isEmpty, search}
 use Rattle.steps.specs.Run.{Assumptions, given, noDecisions, start, everything, outcome, finish, searched, run}
 use Rattle.steps.specs.Meaning.{Follows, Holds}
 use Rattle.steps.specs.Shape.{Input, Growing, Shape, SideShape}
 use Rattle.steps.specs.Demands.{RecordsHold, Right, Demand2}
-use Rattle.steps.proofs.ShapeKeep.{another, undecided-not-decided, records-at-most-n}
+use Rattle.steps.proofs.ShapeKeep.{another, undecided-within, undecided-not-decided, records-at-most-n}
 use Rattle.steps.proofs.Nesting.{undecided-at-most-n}
 use Rattle.steps.proofs.ShapeSearch.{shape-search}
 use Rattle.steps.proofs.ShapeStart.{shape-start}
@@ -30,6 +30,7 @@ use Rattle.steps.proofs.Models.{Satisfied, Satisfied.at, true-satisfies
 use Rattle.steps.proofs.Sound.{Modeled, SoundState, sound-start}
 use Rattle.steps.proofs.Building.{built, builds, gives-holds}
 use Rattle.steps.proofs.SoundMerge.{SideSound}
+use Rattle.steps.proofs.NoneEmpty.{Stays, stays}
 use Rattle.steps.proofs.SoundSearch.{search-sound, root-modeled}
 
 -- a list that begins with xs is xs and what comes after it
@@ -49,7 +50,7 @@ empty-unnamed u c z = meets-false-intro (vars c) u (λ k h. both-ways (isZero (v
 
 -- its one D-sequent
 abbrev whole : ℕ → DSequent
-whole n = record { given = noDecisions; redundant = firstOf n }
+whole n = record { decisions = noDecisions; redundant = firstOf n }
 
 -- it has no other
 everything-member : (n : ℕ) (d : DSequent) → List·Memᴰ d (everything n) → d ≡ whole n
@@ -96,18 +97,18 @@ module _ (n : ℕ) (book : List Clause) (o : Assumptions) (input : Input n book 
             (λ x small agree keeps.
             let there = subst (List·Memᴰ c) (sym (all-clauses s sound)) m in
             empty-never x c z (dropping-true x (firstOf n) (given book o ++ derived s) keeps c there (empty-unnamed (firstOf n) c z))));
-        apart =
-            λ d l.
-            subst (λ (q : DSequent). meets (q .given .decided) (q .redundant) ≡ false) (sym (everything-member n d l))
-            (zero-meets (firstOf n));
+        fitted = λ d l. let is = everything-member n d l in rw is (within-zero 0);
+        decided = λ d l. let is = everything-member n d l in rw is (within-zero (firstOf n));
+        struck = λ d l. let is = everything-member n d l in rw is (within-refl (firstOf n));
+        apart = λ d l. let is = everything-member n d l in rw is (zero-meets (firstOf n));
         grow = everything-grows n;
         few = everything-few n;
       }
 
-  module _ (budget capacity : ℕ) where
+  module _ (allowance capacity : ℕ) where
     -- what stays the same in the run
     abbrev env : Env
-    env = record { n = n; budget = budget; capacity = capacity }
+    env = record { n = n; allowance = allowance; capacity = capacity }
 
     -- the D-sequents handed out at "can" and at a stop hold
     records-hold :
@@ -116,10 +117,13 @@ module _ (n : ℕ) (book : List Clause) (o : Assumptions) (input : Input n book 
     records-hold x a s shape sound =
         record {
           holds = λ d m. subst (λ (t : List Clause). Holds n book o t d) (sym (all-clauses s sound)) (gives-holds n book o input (s .table) d (sound .records d m));
+          fitted = λ d m. let is = shape .records d m .values in rw is (and-within-l (d .decisions .decided) (a .trues));
+          decided = λ d m. within-trans (d .decisions .decided) (a .decided) (firstOf n) (shape .records d m .on) (shape .decided);
+          struck = λ d m. within-trans (d .redundant) (undecided env a) (firstOf n) (shape .records d m .off) (undecided-within env a);
           apart =
               λ d m.
               let known = shape .records d m in
-              meets-false-intro (d .given .decided) (d .redundant)
+              meets-false-intro (d .decisions .decided) (d .redundant)
               (λ k h. refuted (has (d .redundant) k) (λ r. both-ways (has (a .decided) k) (known .on k h) (undecided-not-decided env a k (known .off k r))));
           grow = shape .growing;
           few = records-at-most-n env a s shape;
@@ -164,24 +168,25 @@ module _ (n : ℕ) (book : List Clause) (o : Assumptions) (input : Input n book 
 
     -- whatever the search comes to
     finish-right :
-        (x : Side) → SideShape env noDecisions x → SideSound (given book o) env noDecisions (given book o) x →
+        (x : Side) → SideShape env noDecisions x → Stays x → SideSound (given book o) env noDecisions x →
         Right n book o (finish n (length (given book o)) x)
     unfolding finish
-    finish-right (up s) h g = can-right noDecisions s h (g .sound) (root-modeled (given book o) env (given book o) s h g)
-    finish-right (ended can a s) h g = can-right a s h (g .0) (g .1)
-    finish-right (ended cannot a s) h g = cannot-right s (g .0) (g .1 .0) (g .1 .1) (g .1 .2)
-    finish-right (ended outOfDecisions a s) h g =
-        stop-right outOfDecisions (λ e. clash cc) (λ e. clash cc) a s h g
-    finish-right (ended outOfClauses a s) h g =
+    finish-right (up s) h f g = can-right noDecisions s h (g .sound) (root-modeled (given book o) env s h f g)
+    finish-right (ended can a s) h f g = can-right a s h (g .0) (g .1)
+    finish-right (ended cannot a s) h f g = cannot-right s (g .0) (g .1 .0) (g .1 .1) (g .1 .2)
+    finish-right (ended outOfBranchings a s) h f g =
+        stop-right outOfBranchings (λ e. clash cc) (λ e. clash cc) a s h g
+    finish-right (ended outOfClauses a s) h f g =
         stop-right outOfClauses (λ e. clash cc) (λ e. clash cc) a s h g
 
 -- demand 2
 pub demand2 : Demand2
 unfolding run searched
-demand2 n book o input budget places =
+demand2 n book o input allowance places =
     let t = given book o in
-    let e : Env = record { n = n; budget = budget; capacity = length t + places } in
-    let point : Shape e noDecisions (start t) = shape-start n book o budget (length t + places) input in
-    finish-right n book o input budget (length t + places) (search e n noDecisions 0 (start t))
+    let e : Env = record { n = n; allowance = allowance; capacity = length t + places } in
+    let point : Shape e noDecisions (start t) = shape-start n book o allowance (length t + places) input in
+    finish-right n book o input allowance (length t + places) (search e n noDecisions 0 (start t))
     (shape-search e n noDecisions 0 (start t) point)
+    (stays e n noDecisions 0 (start t))
     (search-sound t e n noDecisions 0 (start t) (undecided-at-most-n e noDecisions) point (sound-start t))

@@ -1,4 +1,4 @@
--- The sweep is document 01's step 3. Its test passes exactly where every clause with the literal is inactive: what it gathers has a keeper of each
+-- The sweep is step 3. Its test passes exactly where every clause with the literal is inactive: what it gathers has a keeper of each
 -- that names nothing redundant, and where it fails one is active. Each round strikes one live variable, and at most n are live, so after n rounds
 -- none is live that passes.
 use mathlib.Core.Path.{_≡_, refl, ap, _∙_}
@@ -39,7 +39,7 @@ neither-active : (a : Assignment) (k : ℕ) (c : Clause) → satisfied a c ≡ f
 unfolding inactive
 neither-active a k c e f = rw (e, f)
 
--- "all rules with that entry are out"
+-- the test is that all clauses with the literal are inactive
 pub sweep-tests : SweepTests
 sweep-tests a s w b = (all-out, passes (inactiveBy a s w b) refl)
   where
@@ -52,13 +52,13 @@ sweep-tests a s w b = (all-out, passes (inactiveBy a s w b) refl)
         go : (z : Bool) → names (redundant s) c ≡ z → inactive a (redundant s) c ≡ true
         go true n = naming-inactive a (redundant s) c n
         go false n =
-            let j = gathered b w a (redundant s) (last (s .records) .given .decided) (s .table) r e .keeper c m l n in
+            let j = gathered b w a (redundant s) (last (s .records) .decisions .decided) (s .table) r e .keeper c m l n in
             satisfied-inactive a (redundant s) c (keeper-satisfied a c (j .0) (j .2))
 
     passes : (o : Option ℕ) → inactiveBy a s w b ≡ o → AllOut → (r : ℕ) × (inactiveBy a s w b ≡ some r)
     passes (some r) e f = (r, e)
     passes none e f =
-        let x = active b w a (redundant s) (last (s .records) .given .decided) (s .table) e in
+        let x = active b w a (redundant s) (last (s .records) .decisions .decided) (s .table) e in
         both-ways (inactive a (redundant s) (x .clause)) (f (x .clause) (x .member) (x .literal))
         (neither-active a (redundant s) (x .clause) (x .unsatisfied) (x .unnamed))
 
@@ -102,7 +102,7 @@ sweep-done e a (suc k) s h w one = go (firstMonotone a s (members (live e a s)))
         w
         one
 
--- "repeat until no w is found"
+-- the sweep goes on until no variable passes
 pub sweep-ends : SweepEnds
 sweep-ends e a s w one =
     sweep-done e a (e .n) s (undecided-few e a (live e a s) (live-undecided e a s)) w one

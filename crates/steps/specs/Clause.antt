@@ -1,4 +1,4 @@
--- Clauses, partial assignments and D-sequents, and what a clause is under them, in document 01's words.
+-- Clauses, partial assignments and D-sequents, and what a clause is under them.
 use mathlib.Core.Bool.{Bool, true, false, not, _&&_, _||_}
 use mathlib.Core.List.{List, [], _∷_}
 use Prim.Native.Nat.{ℕ, _+_}
@@ -7,7 +7,7 @@ use lib.Count.{ones}
 use Rattle.words.specs.Words.{isZero, minus, meets}
 use Rattle.steps.specs.Lists.{filter}
 
--- document 01: a rule. `pos` has the options that keep it when fitted, `neg` those that keep it when left out
+-- a rule. `pos` has the options that keep it when fitted, `neg` those that keep it when left out
 pub record Clause : Type 0 where
   pub pos : ℕ
   pub neg : ℕ
@@ -21,7 +21,7 @@ literals false c = c .neg
 unfoldable pub vars : Clause → ℕ
 vars c = bitOr (c .pos) (c .neg)
 
--- document 01: the decisions. `trues`, the fitted ones, are among `decided`
+-- the decisions. `trues`, the fitted ones, are among `decided`
 pub record Assignment : Type 0 where
   pub decided : ℕ
   pub trues : ℕ
@@ -39,11 +39,11 @@ decide a v false = record { decided = bitOr (a .decided) v; trues = a .trues }
 unfoldable pub keepers : Assignment → Clause → ℕ
 keepers a c = bitOr (bitAnd (c .pos) (a .trues)) (bitAnd (c .neg) (minus (a .decided) (a .trues)))
 
--- document 01: kept. A decided variable makes a literal true
+-- kept: a decided variable makes a literal true
 unfoldable pub satisfied : Assignment → Clause → Bool
 satisfied a c = not (isZero (keepers a c))
 
--- document 01: broken. All variables are decided and all literals false
+-- broken: all variables are decided and all literals false
 unfoldable pub falsified : Assignment → Clause → Bool
 falsified a c = isZero (minus (vars c) (a .decided)) && not (satisfied a c)
 
@@ -51,7 +51,7 @@ falsified a c = isZero (minus (vars c) (a .decided)) && not (satisfied a c)
 unfoldable pub names : ℕ → Clause → Bool
 names k c = meets (vars c) k
 
--- document 01: out. Satisfied, or naming a redundant variable
+-- out: satisfied, or naming a redundant variable
 unfoldable pub inactive : Assignment → ℕ → Clause → Bool
 inactive a k c = satisfied a c || names k c
 
@@ -59,24 +59,24 @@ inactive a k c = satisfied a c || names k c
 unfoldable pub undecidedIn : Assignment → Clause → ℕ
 undecidedIn a c = ones (minus (c .pos) (a .decided)) + ones (minus (c .neg) (a .decided))
 
--- document 01: a record (decisions r; set K). `given` is r, `redundant` is K
+-- a record (decisions r; set K): `decisions` is r, `redundant` is K
 pub record DSequent : Type 0 where
-  pub given : Assignment
+  pub decisions : Assignment
   pub redundant : ℕ
 
 -- what the empty list stands for: no decisions and an empty set
 abbrev pub noDSequent : DSequent
-noDSequent = record { given = record { decided = 0; trues = 0 }; redundant = 0 }
+noDSequent = record { decisions = record { decided = 0; trues = 0 }; redundant = 0 }
 
 -- the last of d and the list after it
 abbrev pub lastOr : DSequent → List DSequent → DSequent
 lastOr d [] = d
 lastOr d (r ∷ rs) = lastOr r rs
 
--- the last D-sequent of a list. Document 01: its set is the struck set
+-- the last D-sequent of a list. Its set is the struck set
 abbrev pub last : List DSequent → DSequent
 last rs = lastOr noDSequent rs
 
 -- the D-sequents whose decisions do not name v
 unfoldable pub without : ℕ → List DSequent → List DSequent
-without v rs = filter (λ r. not (meets (r .given .decided) v)) rs
+without v rs = filter (λ r. not (meets (r .decisions .decided) v)) rs

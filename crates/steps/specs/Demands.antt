@@ -1,5 +1,7 @@
--- The demands, each as a named type that is proved in `proofs/`. Demands 2 and 3 are about every number of options, every book that was read, every
--- order over its options, and all allowances. The record at the end has them all.
+-- The demands on the steps, each as a named type that is proved in `proofs/`. The record at the end has them all. docs/STEPS.md has the steps in words and
+-- how to read the signs ("Signs"). Demands 2 and 3 are about every number of options, every book that was read, every order over its options (`Input n book o`:
+-- rules and order name only options 1 to n, and no rule names one with both signs), and all allowances. `run n book o allowance places` is the outcome: its
+-- `ending`, how many `branchings`, the `derived` rules and the `records`.
 use mathlib.Core.Path.{_≡_}
 use mathlib.Core.Bool.{Bool, true, false}
 use mathlib.Core.List.{List, [], _++_, List·Memᴰ}
@@ -7,16 +9,17 @@ use mathlib.Core.Logic.{_⊎_, _↔_}
 use mathlib.Core.Option.{some, none}
 use Prim.Native.Nat.{ℕ, suc, _+_, _-_, _^_, _≤_, _<_}
 use lib.Count.{ones}
-use lib.Dec.{leb}
 use lib.ListN.{length}
-use Rattle.words.specs.Words.{meets}
-use Rattle.steps.specs.Clause.{Clause, literals, Assignment, decide, inactive, DSequent}
-use Rattle.steps.specs.State.{Env, State, Ending, Ending.can, Ending.cannot, Ending.outOfDecisions, Ending.outOfClauses, redundant, live}
+use Rattle.words.specs.Words.{meets, firstOf, Within}
+use Rattle.steps.specs.Clause.{Clause, literals, Assignment, decide, inactive, DSequent, last}
+use Rattle.steps.specs.State.{Env, State, Ending, Ending.can, Ending.cannot, Ending.outOfBranchings, Ending.outOfClauses, redundant, live}
 use Rattle.steps.specs.Sweep.{inactiveBy, monotone, sweep}
-use Rattle.steps.specs.Enter.{Turn.branch, enter}
+use Rattle.steps.specs.Enter.{Turn.branch, falsifiedNaming, enter}
+use Rattle.steps.specs.Merge.{join}
 use Rattle.steps.specs.Search.{search}
 use Rattle.steps.specs.Run.{Assumptions, Outcome, given, noDecisions, start, run}
-use Rattle.steps.specs.Marked.{clause, sequent, order, P, Q}
+use Rattle.steps.specs.Marked.{clause, sequent, order, Agree, C, P, Q, marked, further}
+use Rattle.steps.specs.Reached.{Reached, Merges}
 use Rattle.steps.specs.Shape.{Input, Growing, Shape, OneOf}
 use Rattle.steps.specs.Meaning.{Buildable, Follows, Holds}
 
@@ -26,19 +29,27 @@ Verdict x = (x ≡ can) ⊎ (x ≡ cannot)
 
 -- ---- demand 2
 
--- "can" only if some choice keeps every rule and the order, "cannot" only if none does
+-- "can" only if some choice keeps every rule and the order (`Buildable`), "cannot" only if none does
 pub record RightVerdict (n : ℕ) (book : List Clause) (o : Assumptions) (r : Outcome) : Type 0 where
   pub can-only : r .ending ≡ can → Buildable n book o
   pub cannot-only : r .ending ≡ cannot → Buildable n book o → ⊥
 
--- each derived rule follows, at a verdict and at a stop
+-- each derived rule follows, at a verdict and at a stop: every choice that keeps book and order keeps it
 abbrev pub DerivedFollow : ℕ → List Clause → Assumptions → Outcome → Type 0
 DerivedFollow n book o r = (c : Clause) → List·Memᴰ c (r .derived) → Follows n book o c
 
--- each record handed out holds in the table as it is then; its decisions and its set share no option; the sets grow; there are at most n
+-- what is so of the records handed out, each with its decisions and its set of struck options
 pub record RecordsHold (n : ℕ) (book : List Clause) (o : Assumptions) (r : Outcome) : Type 0 where
+  -- each holds in the table at the end, which is book, order and derived rules: either book and order can be built, or no choice that agrees with its decisions
+  -- keeps the rules that name nothing of its set
   pub holds : (d : DSequent) → List·Memᴰ d (r .records) → Holds n book o (given book o ++ r .derived) d
-  pub apart : (d : DSequent) → List·Memᴰ d (r .records) → meets (d .given .decided) (d .redundant) ≡ false
+  -- its fitted options are among its decided ones, so that some choice agrees with it
+  pub fitted : (d : DSequent) → List·Memᴰ d (r .records) → Within (d .decisions .trues) (d .decisions .decided)
+  -- its decisions and its set are of the n options, and share none
+  pub decided : (d : DSequent) → List·Memᴰ d (r .records) → Within (d .decisions .decided) (firstOf n)
+  pub struck : (d : DSequent) → List·Memᴰ d (r .records) → Within (d .redundant) (firstOf n)
+  pub apart : (d : DSequent) → List·Memᴰ d (r .records) → meets (d .decisions .decided) (d .redundant) ≡ false
+  -- each set has all of the one before it, and more; there are at most n
   pub grow : Growing 0 (r .records)
   pub few : length (r .records) ≤ n
 
@@ -49,10 +60,11 @@ pub record Right (n : ℕ) (book : List Clause) (o : Assumptions) (r : Outcome) 
   pub records : RecordsHold n book o r
 
 abbrev pub Demand2 : Type 0
-Demand2 = (n : ℕ) (book : List Clause) (o : Assumptions) → Input n book o → (budget places : ℕ) → Right n book o (run n book o budget places)
+Demand2 = (n : ℕ) (book : List Clause) (o : Assumptions) → Input n book o → (allowance places : ℕ) → Right n book o (run n book o allowance places)
 
--- "striking option 1 alone leaves an unkeepable table, and so does striking 2 alone, while striking both leaves nothing". So a record can fail to
--- hold, and likewise a rule to follow
+-- a record's set is a joint one. P is the rules 1; not 1; 2; not 2, and `sequent 0 0 k` the record without decisions whose set is the word k. With option 1
+-- struck no choice keeps what is left, nor with option 2 struck; with both struck nothing is left. So a record can fail to hold. Likewise a rule can fail to
+-- follow: "1" (`clause 1 0`) does not follow from an empty book
 pub record Joint : Type 0 where
   pub one : Holds 2 P (order 0 0) P (sequent 0 0 1)
   pub other : Holds 2 P (order 0 0) P (sequent 0 0 2)
@@ -62,111 +74,163 @@ pub record Joint : Type 0 where
 -- ---- demand 3
 
 -- r is the outcome of book and order with some allowances, and it is a verdict
-pub record Decided (n : ℕ) (book : List Clause) (o : Assumptions) (r : Outcome) : Type 0 where
-  pub budget : ℕ
+pub record Settled (n : ℕ) (book : List Clause) (o : Assumptions) (r : Outcome) : Type 0 where
+  pub allowance : ℕ
   pub places : ℕ
-  pub reached : run n book o budget places ≡ r
+  pub reached : run n book o allowance places ≡ r
   pub verdict : Verdict (r .ending)
 
 -- the allowances are enough for the outcome r
 abbrev pub Enough : Outcome → ℕ → ℕ → Type 0
-Enough r budget places = (r .decisions ≤ budget) × (length (r .derived) ≤ places)
+Enough r allowance places = (r .branchings ≤ allowance) × (length (r .derived) ≤ places)
 
--- "enough of both gives the same outcome", and less does not
-abbrev pub SameOutcome : Type 0
-SameOutcome =
-    (n : ℕ) (book : List Clause) (o : Assumptions) → Input n book o → (r : Outcome) → Decided n book o r → (budget places : ℕ) →
-    Enough r budget places ↔ (run n book o budget places ≡ r)
+-- stop 10, with the whole allowance as branchings
+abbrev pub StopsOnBranchings : ℕ → Outcome → Type 0
+StopsOnBranchings allowance x = (x .ending ≡ outOfBranchings) × (x .branchings ≡ allowance)
 
--- "one short gives the named stop": where only one of the two falls short
-pub record Stops (n : ℕ) (book : List Clause) (o : Assumptions) (r : Outcome) : Type 0 where
-  pub fewer-decisions :
-      (budget places : ℕ) → budget < r .decisions → length (r .derived) ≤ places → run n book o budget places .ending ≡ outOfDecisions
-  pub fewer-places :
-      (budget places : ℕ) → r .decisions ≤ budget → places < length (r .derived) → run n book o budget places .ending ≡ outOfClauses
+-- stop 11, with all the places as derived rules
+abbrev pub StopsOnPlaces : ℕ → Outcome → Type 0
+StopsOnPlaces places x = (x .ending ≡ outOfClauses) × (length (x .derived) ≡ places)
 
-abbrev pub OneShort : Type 0
-OneShort = (n : ℕ) (book : List Clause) (o : Assumptions) → Input n book o → (r : Outcome) → Decided n book o r → Stops n book o r
+-- what the allowances buy, where book and order are settled with the outcome r
+pub record Buys (n : ℕ) (book : List Clause) (o : Assumptions) (r : Outcome) (allowance places : ℕ) : Type 0 where
+  -- enough of both gives the outcome r, and less does not
+  pub same : Enough r allowance places ↔ (run n book o allowance places ≡ r)
+  -- less gives a stop, stop 10 or stop 11, by what is spent
+  pub stops :
+      (Enough r allowance places → ⊥) →
+      StopsOnBranchings allowance (run n book o allowance places) ⊎ StopsOnPlaces places (run n book o allowance places)
+  -- stop 10 where only the branchings are too few, be it by one
+  pub fewer-branchings : allowance < r .branchings → length (r .derived) ≤ places → StopsOnBranchings allowance (run n book o allowance places)
+  -- and stop 11 where only the places are
+  pub fewer-places : r .branchings ≤ allowance → places < length (r .derived) → StopsOnPlaces places (run n book o allowance places)
+  -- where both are too few, it is the stop that the steps reach first. x is the run with this allowance and with places enough, so it ends with stop 10. Where the
+  -- places have room for the derived rules of x, the run is x
+  pub branchings-first :
+      let x : Outcome = run n book o allowance (length (r .derived)) in
+      allowance < r .branchings → places < length (r .derived) → length (x .derived) ≤ places →
+      StopsOnBranchings allowance (run n book o allowance places) × (run n book o allowance places ≡ x)
+  -- and where they have not, it is the run with these places and with branchings enough, which ends with stop 11
+  pub places-first :
+      let x : Outcome = run n book o allowance (length (r .derived)) in
+      allowance < r .branchings → places < length (r .derived) → places < length (x .derived) →
+      StopsOnPlaces places (run n book o allowance places) × (run n book o allowance places ≡ run n book o (r .branchings) places)
 
--- "where both are too few, the stop is the one that the steps reach first": the outcome with too few decisions and places enough, where that one
--- needs no more than the places, and else the one with decisions enough and too few places
-abbrev pub BothShort : Type 0
-BothShort =
-    (n : ℕ) (book : List Clause) (o : Assumptions) → Input n book o → (r : Outcome) → Decided n book o r → (budget places : ℕ) →
-    budget < r .decisions → places < length (r .derived) → run n book o budget places
-    ≡
-    elim (leb (length (run n book o budget (length (r .derived)) .derived)) places) [
-      | true ↦ run n book o budget (length (r .derived))
-      | false ↦ run n book o (r .decisions) places
-    ]
+-- demand 3, for every verdict r that book and order come to, and all allowances
+abbrev pub Demand3 : Type 0
+Demand3 =
+    (n : ℕ) (book : List Clause) (o : Assumptions) → Input n book o → (r : Outcome) → Settled n book o r → (allowance places : ℕ) →
+    Buys n book o r allowance places
 
--- "stop 10 reports the whole allowance as branchings, and stop 11 all the places as derived", and no run reports more of either
-pub record Spent (budget places : ℕ) (r : Outcome) : Type 0 where
-  pub decisions : r .ending ≡ outOfDecisions → r .decisions ≡ budget
+-- stop 10 reports the whole allowance as branchings, stop 11 as many derived rules as there are places, and no run reports more of either
+pub record Spent (allowance places : ℕ) (r : Outcome) : Type 0 where
+  pub branchings : r .ending ≡ outOfBranchings → r .branchings ≡ allowance
   pub clauses : r .ending ≡ outOfClauses → length (r .derived) ≡ places
-  pub no-more-decisions : r .decisions ≤ budget
+  pub no-more-branchings : r .branchings ≤ allowance
   pub no-more-clauses : length (r .derived) ≤ places
 
 abbrev pub StopsSpent : Type 0
 StopsSpent =
-    (n : ℕ) (book : List Clause) (o : Assumptions) → Input n book o → (budget places : ℕ) → Spent budget places (run n book o budget places)
+    (n : ℕ) (book : List Clause) (o : Assumptions) → Input n book o → (allowance places : ℕ) → Spent allowance places (run n book o allowance places)
 
 -- a run's derived rules begin the list of every run of the same book and order with neither allowance smaller
 abbrev pub DerivedBegin : Type 0
 DerivedBegin =
-    (n : ℕ) (book : List Clause) (o : Assumptions) → Input n book o → (budget places budget′ places′ : ℕ) → budget ≤ budget′ → places ≤ places′ →
-    (more : List Clause) × (run n book o budget′ places′ .derived ≡ run n book o budget places .derived ++ more)
+    (n : ℕ) (book : List Clause) (o : Assumptions) → Input n book o → (allowance places allowance′ places′ : ℕ) → allowance ≤ allowance′ → places ≤ places′ →
+    (more : List Clause) × (run n book o allowance′ places′ .derived ≡ run n book o allowance places .derived ++ more)
 
--- "2^n - 1 of both is always enough", and no run makes more branchings than that, nor more derived rules than branchings
+-- 2^n - 1 of both is always enough for a verdict, and no run makes more branchings than that, nor more derived rules than branchings
 pub record Bounded (n : ℕ) (book : List Clause) (o : Assumptions) : Type 0 where
-  pub enough : (budget places : ℕ) → 2 ^ n - 1 ≤ budget → 2 ^ n - 1 ≤ places → Verdict (run n book o budget places .ending)
-  pub decisions : (budget places : ℕ) → run n book o budget places .decisions ≤ 2 ^ n - 1
-  pub clauses : (budget places : ℕ) → length (run n book o budget places .derived) ≤ run n book o budget places .decisions
+  pub enough : (allowance places : ℕ) → 2 ^ n - 1 ≤ allowance → 2 ^ n - 1 ≤ places → Verdict (run n book o allowance places .ending)
+  pub branchings : (allowance places : ℕ) → run n book o allowance places .branchings ≤ 2 ^ n - 1
+  pub clauses : (allowance places : ℕ) → length (run n book o allowance places .derived) ≤ run n book o allowance places .branchings
 
 abbrev pub AlwaysEnough : Type 0
 AlwaysEnough = (n : ℕ) (book : List Clause) (o : Assumptions) → Input n book o → Bounded n book o
 
--- "nesting deepens by one decided option each time": either side of a branching at a point decides exactly one more option
+-- either side of a branching decides exactly one more option. A point has the decisions a and the state s (`Shape`); steps 2 to 5 (`enter`) come to a branching
+-- over w there
 abbrev pub OneDeeper : Type 0
 OneDeeper =
     (e : Env) (a : Assignment) (v : ℕ) (s : State) → Shape e a s → (w : ℕ) (b : Bool) (t : State) → enter e a v s ≡ branch w b t →
     (side : Bool) → ones (decide a w side .decided) ≡ suc (ones (a .decided))
 
--- "so it never passes n": a search that may go deeper than n goes on as the one that may not
+-- nesting never passes n: a search that may go k deeper than n comes to the same as one that may not
 abbrev pub NeverPasses : Type 0
 NeverPasses =
-    (n : ℕ) (book : List Clause) (o : Assumptions) → Input n book o → (budget capacity k : ℕ) →
-    let e : Env = record { n = n; budget = budget; capacity = capacity } in
+    (n : ℕ) (book : List Clause) (o : Assumptions) → Input n book o → (allowance capacity k : ℕ) →
+    let e : Env = record { n = n; allowance = allowance; capacity = capacity } in
     search e (n + k) noDecisions 0 (start (given book o)) ≡ search e n noDecisions 0 (start (given book o))
+
+-- and it need not: where the search may go no deeper (0 levels), a point that a run reaches (`Reached`) does not branch
+abbrev pub NeverDeeper : Type 0
+NeverDeeper =
+    (n : ℕ) (book : List Clause) (o : Assumptions) → Input n book o → (allowance capacity : ℕ) →
+    let e : Env = record { n = n; allowance = allowance; capacity = capacity } in
+    (a : Assignment) (v : ℕ) (s : State) → Reached e (given book o) 0 a v s → (w : ℕ) (b : Bool) (u : State) → enter e a v s ≡ branch w b u → ⊥
 
 -- ---- step 3
 
--- "all rules with that entry are out": the test gives decisions exactly where every clause with the literal of w and sign b is inactive
+-- the test gives decisions exactly where all rules with that entry are out: every clause of the table with the literal of w and sign b is inactive
 abbrev pub SweepTests : Type 0
 SweepTests =
     (a : Assignment) (s : State) (w : ℕ) (b : Bool) →
     ((r : ℕ) × (inactiveBy a s w b ≡ some r)) ↔
     ((c : Clause) → List·Memᴰ c (s .table) → meets (literals b c) w ≡ true → inactive a (redundant s) c ≡ true)
 
--- "repeat until no w is found": after the sweep no live variable passes the test
+-- after the sweep no live variable passes the test (`OneOf w x`: w is the word of one member of x)
 abbrev pub SweepEnds : Type 0
 SweepEnds =
     (e : Env) (a : Assignment) (s : State) (w : ℕ) → OneOf w (live e a (sweep e a (e .n) s)) → monotone a (sweep e a (e .n) s) w ≡ none
 
+-- ---- step 7
+
+-- both clauses that are resolved exist: where a run comes together (`Merges`: it branched over w at a, b first, and the sides went back up with x and y) and w
+-- does not pass the test after the join j, either side falsifies a clause that names w
+abbrev pub ParentsExist : Type 0
+ParentsExist =
+    (n : ℕ) (book : List Clause) (o : Assumptions) → Input n book o → (allowance capacity : ℕ) →
+    let e : Env = record { n = n; allowance = allowance; capacity = capacity } in
+    (a : Assignment) (w : ℕ) (b : Bool) (x y : State) → Merges e (given book o) a w b x y →
+    let j : State = join e a w (last (x .records) .decisions .decided) y in
+    monotone a j w ≡ none → (side : Bool) → (c : Clause) × (falsifiedNaming w (decide a w side) (j .table) ≡ some c)
+
+-- and it does come to that: with C, the rules 1 and not 1, after the one branching
+pub record TestFails : Type 0 where
+  pub first : State
+  pub second : State
+  pub merges : Merges (record { n = 1; allowance = 1; capacity = 3 }) C noDecisions 1 true first second
+  pub test :
+      let e : Env = record { n = 1; allowance = 1; capacity = 3 } in
+      monotone noDecisions (join e noDecisions 1 (last (first .records) .decisions .decided) second) 1 ≡ none
+
+-- ---- cases
+
+-- the runs that are marked, each with its outcome beside it (`Marked`)
+abbrev pub MarkedCases : Type 0
+MarkedCases = Agree marked
+
+-- and further ones
+abbrev pub FurtherCases : Type 0
+FurtherCases = Agree further
+
 -- ---- all of them
 
--- every demand, proved in `proofs/Demands.antt`. That there is an input keeps them from being about nothing
+-- every demand, proved in `proofs/Demands.antt`. `input` is an input, Q with options 2 and 3 wanted, which keeps them from being about nothing
 pub record Demands : Type 0 where
   pub right : Demand2
   pub joint : Joint
   pub input : Input 3 Q (order 6 0)
-  pub same-outcome : SameOutcome
-  pub one-short : OneShort
-  pub both-short : BothShort
+  pub buys : Demand3
   pub stops-spent : StopsSpent
   pub derived-begin : DerivedBegin
   pub always-enough : AlwaysEnough
   pub one-deeper : OneDeeper
   pub never-passes : NeverPasses
+  pub never-deeper : NeverDeeper
   pub sweep-tests : SweepTests
   pub sweep-ends : SweepEnds
+  pub parents-exist : ParentsExist
+  pub test-fails : TestFails
+  pub marked-cases : MarkedCases
+  pub further-cases : FurtherCases

@@ -1,4 +1,4 @@
--- Document 01's steps as definitions that compute, in its order, and what is demanded of them. `Demands` is the page to read.
+-- The steps as definitions that compute, in their order, and what is demanded of them. `Demands` is the page to read; docs/STEPS.md has the steps in words.
 pub mod Lists
 pub mod Clause
 pub mod State
@@ -8,6 +8,7 @@ pub mod Merge
 pub mod Search
 pub mod Run
 pub mod Marked
+pub mod Reached
 pub mod Shape
 pub mod Meaning
 pub mod Demands

@@ -1,17 +1,11 @@
--- Document 01's marked cases, its program example included, as one statement on the definitions, by computation; and a second one of further cases:
--- contradictions, repeated rules, no options, and allowances too small. A case is a run and, beside it, its outcome.
-use mathlib.Core.Path.{_≡_, refl}
+-- The marked cases, the program's example among them, and further cases: contradictions, repeated rules, no options, and allowances too small. A case is
+-- a run and, beside it, its outcome.
+use mathlib.Core.Path.{_≡_}
 use mathlib.Core.List.{List, [], _∷_, map}
 use Prim.Native.Nat.{ℕ}
-use lib.Count.{ones, onesIn}
-use Rattle.words.specs.Words.{minus, meets, firstOf, lowest, membersUpTo, members}
-use Rattle.steps.specs.Clause.{Clause, vars, keepers, satisfied, falsified, names, undecidedIn, DSequent, without}
-use Rattle.steps.specs.State.{Ending, Ending.can, Ending.cannot, Ending.outOfDecisions, Ending.outOfClauses, undecided, live}
-use Rattle.steps.specs.Sweep.{allInactive, monotone, firstMonotone, sweep}
-use Rattle.steps.specs.Enter.{unit, swept, falsifiedNaming, enter}
-use Rattle.steps.specs.Merge.{same, resolvent, join, merge}
-use Rattle.steps.specs.Search.{step, search}
-use Rattle.steps.specs.Run.{Assumptions, Outcome, units, finish, searched, run}
+use Rattle.steps.specs.Clause.{Clause, DSequent}
+use Rattle.steps.specs.State.{Ending, Ending.can, Ending.cannot, Ending.outOfBranchings, Ending.outOfClauses}
+use Rattle.steps.specs.Run.{Assumptions, Outcome, run}
 
 -- the options that keep the rule when fitted, and those that keep it when left out
 abbrev pub clause : ℕ → ℕ → Clause
@@ -19,7 +13,7 @@ clause p q = record { pos = p; neg = q }
 
 -- the decided options, those of them fitted, and the struck ones
 abbrev pub sequent : ℕ → ℕ → ℕ → DSequent
-sequent r t k = record { given = record { decided = r; trues = t }; redundant = k }
+sequent r t k = record { decisions = record { decided = r; trues = t }; redundant = k }
 
 -- the wanted options and the unwanted ones
 abbrev pub order : ℕ → ℕ → Assumptions
@@ -27,36 +21,36 @@ order p q = record { pos = p; neg = q }
 
 -- the ending, the branchings, the derived rules and the records
 abbrev out : Ending → ℕ → List Clause → List DSequent → Outcome
-out x b d r = record { ending = x; decisions = b; derived = d; records = r }
+out x b d r = record { ending = x; branchings = b; derived = d; records = r }
 
--- with document 01's program's allowance and places
+-- with the program's allowance and places
 abbrev ample : ℕ → List Clause → Assumptions → Outcome
 ample n book o = run n book o 1000000 2048
 
 -- every run has the outcome beside it
-abbrev Agree : List (Outcome × Outcome) → Type 0
+abbrev pub Agree : List (Outcome × Outcome) → Type 0
 Agree cases = map (λ c. c .0) cases ≡ map (λ c. c .1) cases
 
 -- rules 1; not 1
-abbrev C : List Clause
+abbrev pub C : List Clause
 C = clause 1 0 ∷ clause 0 1 ∷ []
 
 -- rules 1; not 1; 2; not 2
 abbrev pub P : List Clause
 P = clause 1 0 ∷ clause 0 1 ∷ clause 2 0 ∷ clause 0 2 ∷ []
 
--- document 01's Q
+-- rules 1 or 2; 3 or not 1; not 2 or not 3
 abbrev pub Q : List Clause
 Q = clause 3 0 ∷ clause 4 1 ∷ clause 0 6 ∷ []
 
--- document 01's W, the program's example
+-- rules 1 or 2; 2 or not 1; 1 or not 2; not 1 or not 2: the program's example (docs/FORMAT.md), and the run by hand in docs/STEPS.md
 abbrev W : List Clause
 W = clause 3 0 ∷ clause 2 1 ∷ clause 1 2 ∷ clause 0 3 ∷ []
 
--- document 01's table, in its order, with the program's example after the case "Q, wanted 6"
-marked :
-    Agree
-    ((ample 0 [] (order 0 0), out can 0 [] []) ∷
+-- no options, one option, the joint set, Q with three orders, and W with enough of both allowances and with too few
+unfoldable pub marked : List (Outcome × Outcome)
+marked =
+    (ample 0 [] (order 0 0), out can 0 [] []) ∷
     (ample 0 (clause 0 0 ∷ []) (order 0 0), out cannot 0 [] []) ∷
     (ample 1 (clause 1 0 ∷ []) (order 0 0), out can 0 [] (sequent 0 0 1 ∷ [])) ∷
     (ample 1 C (order 0 0), out cannot 1 (clause 0 0 ∷ []) (sequent 0 0 1 ∷ [])) ∷
@@ -65,17 +59,13 @@ marked :
     (ample 3 Q (order 1 0), out can 1 [] (sequent 1 1 2 ∷ sequent 1 1 6 ∷ [])) ∷
     (ample 3 Q (order 6 0), out cannot 2 (clause 0 2 ∷ clause 0 0 ∷ []) (sequent 0 0 7 ∷ [])) ∷
     (ample 2 W (order 0 0), out cannot 3 (clause 1 0 ∷ clause 0 1 ∷ clause 0 0 ∷ []) (sequent 0 0 3 ∷ [])) ∷
-    (run 2 W (order 0 0) 2 3, out outOfDecisions 2 (clause 1 0 ∷ []) []) ∷
-    (run 2 W (order 0 0) 3 0, out outOfClauses 2 [] []) ∷ [])
-unfolding
-    minus meets firstOf lowest membersUpTo members ones onesIn vars keepers satisfied falsified names undecidedIn without undecided live
-    allInactive monotone firstMonotone sweep unit swept falsifiedNaming enter same resolvent join merge step search units finish searched run
-marked = refl
+    (run 2 W (order 0 0) 2 3, out outOfBranchings 2 (clause 1 0 ∷ []) []) ∷
+    (run 2 W (order 0 0) 3 0, out outOfClauses 2 [] []) ∷ []
 
--- cases 26, 50, 392, 397, 217, 14, 281, 236, 60, 195, 22, 319, 172, 145 and 47 of `tests/vectors/base.txt`, and then cases as `compare/port` gives them
-further :
-    Agree
-    ((ample 0 (clause 0 0 ∷ clause 0 0 ∷ clause 0 0 ∷ clause 0 0 ∷ clause 0 0 ∷ []) (order 0 0), out cannot 0 [] []) ∷
+-- cases 26, 50, 392, 397, 217, 14, 281, 236, 60, 195, 22, 319, 172, 145 and 47 of `tests/vectors/base.txt`, and then cases as `rust/port` gives them
+unfoldable pub further : List (Outcome × Outcome)
+further =
+    (ample 0 (clause 0 0 ∷ clause 0 0 ∷ clause 0 0 ∷ clause 0 0 ∷ clause 0 0 ∷ []) (order 0 0), out cannot 0 [] []) ∷
     (ample 4 [] (order 0 0), out can 0 [] (sequent 0 0 1 ∷ sequent 0 0 3 ∷ sequent 0 0 7 ∷ sequent 0 0 15 ∷ [])) ∷
     (ample 3 (clause 0 0 ∷ []) (order 1 4), out cannot 0 [] (sequent 0 0 7 ∷ [])) ∷
     (ample 1 (clause 1 0 ∷ []) (order 0 1), out cannot 1 (clause 0 0 ∷ []) (sequent 0 0 1 ∷ [])) ∷
@@ -102,13 +92,13 @@ further :
       ample 4 (clause 1 4 ∷ clause 2 8 ∷ clause 0 3 ∷ clause 4 2 ∷ clause 2 1 ∷ clause 0 12 ∷ clause 12 0 ∷ clause 4 8 ∷ clause 0 3 ∷ clause 0 9 ∷ clause 2 1 ∷ clause 0 3 ∷ clause 6 0 ∷ []) (order 0 0),
       out cannot 6 (clause 4 0 ∷ clause 1 0 ∷ clause 0 1 ∷ clause 0 0 ∷ []) (sequent 0 0 15 ∷ []),
     ) ∷
-    (run 1 C (order 0 0) 0 1, out outOfDecisions 0 [] []) ∷
+    (run 1 C (order 0 0) 0 1, out outOfBranchings 0 [] []) ∷
     (run 1 C (order 0 0) 1 0, out outOfClauses 1 [] []) ∷
     (run 1 C (order 0 0) 1 1, out cannot 1 (clause 0 0 ∷ []) (sequent 0 0 1 ∷ [])) ∷
-    (run 2 W (order 0 0) 0 0, out outOfDecisions 0 [] []) ∷
-    (run 2 W (order 0 0) 1 0, out outOfDecisions 1 [] []) ∷
+    (run 2 W (order 0 0) 0 0, out outOfBranchings 0 [] []) ∷
+    (run 2 W (order 0 0) 1 0, out outOfBranchings 1 [] []) ∷
     (run 2 W (order 0 0) 2 0, out outOfClauses 2 [] []) ∷
-    (run 2 W (order 0 0) 2 1, out outOfDecisions 2 (clause 1 0 ∷ []) []) ∷
+    (run 2 W (order 0 0) 2 1, out outOfBranchings 2 (clause 1 0 ∷ []) []) ∷
     (run 2 W (order 0 0) 3 1, out outOfClauses 3 (clause 1 0 ∷ []) []) ∷
     (run 2 W (order 0 0) 3 2, out outOfClauses 3 (clause 1 0 ∷ clause 0 1 ∷ []) (sequent 0 0 2 ∷ [])) ∷
     (run 2 W (order 0 0) 3 3, out cannot 3 (clause 1 0 ∷ clause 0 1 ∷ clause 0 0 ∷ []) (sequent 0 0 3 ∷ [])) ∷
@@ -121,8 +111,4 @@ further :
     (run 3 (clause 1 0 ∷ clause 0 6 ∷ clause 6 0 ∷ clause 0 1 ∷ []) (order 0 0) 3 0, out outOfClauses 2 [] (sequent 0 0 4 ∷ sequent 0 0 6 ∷ [])) ∷
     (run 4 (clause 2 12 ∷ clause 13 2 ∷ clause 8 3 ∷ []) (order 0 0) 2 0, out can 2 [] (sequent 2 0 4 ∷ sequent 2 0 12 ∷ [])) ∷
     (run 3 (clause 2 5 ∷ clause 6 1 ∷ clause 1 2 ∷ []) (order 0 4) 2 1, out can 2 [] (sequent 1 0 2 ∷ [])) ∷
-    (run 3 Q (order 0 0) 0 0, out outOfDecisions 0 [] []) ∷ [])
-unfolding
-    minus meets firstOf lowest membersUpTo members ones onesIn vars keepers satisfied falsified names undecidedIn without undecided live
-    allInactive monotone firstMonotone sweep unit swept falsifiedNaming enter same resolvent join merge step search units finish searched run
-further = refl
+    (run 3 Q (order 0 0) 0 0, out outOfBranchings 0 [] []) ∷ []

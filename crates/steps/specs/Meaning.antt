@@ -46,9 +46,9 @@ Follows n book o c = (x : ℕ) → Builds n book o x → satisfies x c ≡ true
 abbrev pub dropping : ℕ → List Clause → List Clause
 dropping k t = filter (λ c. not (names k c)) t
 
--- document 01: a record holds in the table t. Either book and order can be built, or t under the decisions, with every clause that names a
+-- a record holds in the table t: either book and order can be built, or t under the decisions, with every clause that names a
 -- variable of the set dropped, still cannot be kept
 abbrev pub Holds : ℕ → List Clause → Assumptions → List Clause → DSequent → Type 0
 Holds n book o t d =
     Buildable n book o ⊎
-    ((x : ℕ) → x < 2 ^ n → agrees x (d .given) ≡ true → models x (dropping (d .redundant) t) ≡ true → ⊥)
+    ((x : ℕ) → x < 2 ^ n → agrees x (d .decisions) ≡ true → models x (dropping (d .redundant) t) ≡ true → ⊥)

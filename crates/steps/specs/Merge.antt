@@ -19,7 +19,7 @@ joinOn e a v r t =
 
 -- the second side's D-sequents that do not name v, and the join of both sides' last decisions. r is the first side's
 unfoldable pub join : Env → Assignment → ℕ → ℕ → State → State
-join e a v r s = joinOn e a v (bitOr r (last (s .records) .given .decided)) (recorded (without v (s .records)) s)
+join e a v r s = joinOn e a v (bitOr r (last (s .records) .decisions .decided)) (recorded (without v (s .records)) s)
 
 -- the two clauses have the same literals
 unfoldable pub same : Clause → Clause → Bool
@@ -38,7 +38,7 @@ abbrev pub learn : Env → Assignment → State → Clause → Option Clause →
 learn e a s c (some d) = settle e a d s
 learn e a s c none = elim (ltb (length (s .table)) (e .capacity)) [ false ↦ ended outOfClauses a s | true ↦ settle e a c (added c s) ]
 
--- the resolvent of the two sides' falsified clauses. Both exist wherever the test fails
+-- the resolvent of the two sides' falsified clauses. Both exist wherever the test fails in a run (`ParentsExist`)
 abbrev pub resolve : Env → Assignment → ℕ → State → Option Clause → Option Clause → Side
 resolve e a v s none d = up s
 resolve e a v s (some c) none = up s

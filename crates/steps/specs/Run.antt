@@ -5,18 +5,18 @@ use Prim.Native.Nat.{ℕ, _+_}
 use lib.ListN.{length, drop}
 use Rattle.words.specs.Words.{isZero, firstOf, members}
 use Rattle.steps.specs.Clause.{Clause, Assignment, DSequent}
-use Rattle.steps.specs.State.{State, Ending, Ending.can, Ending.cannot, Ending.outOfDecisions, Ending.outOfClauses, Side, Side.up, Side.ended}
+use Rattle.steps.specs.State.{State, Ending, Ending.can, Ending.cannot, Ending.outOfBranchings, Ending.outOfClauses, Side, Side.up, Side.ended}
 use Rattle.steps.specs.Search.{search}
 
--- document 01: the order. `pos` are the wanted options, `neg` the unwanted ones
+-- the order: `pos` are the wanted options, `neg` the unwanted ones
 pub record Assumptions : Type 0 where
   pub pos : ℕ
   pub neg : ℕ
 
--- document 01: the outcome. How the run ended, how many branchings, the derived rules and the records, in order
+-- the outcome: how the run ended, how many branchings, the derived rules and the records, in order
 pub record Outcome : Type 0 where
   pub ending : Ending
-  pub decisions : ℕ
+  pub branchings : ℕ
   pub derived : List Clause
   pub records : List DSequent
 
@@ -32,28 +32,28 @@ abbrev pub noDecisions : Assignment
 noDecisions = record { decided = 0; trues = 0 }
 
 abbrev pub start : List Clause → State
-start t = record { table = t; records = []; decisions = 0 }
+start t = record { table = t; records = []; branchings = 0 }
 
 -- step 1's list: no decisions, all variables; none where there is no variable
 abbrev pub everything : ℕ → List DSequent
-everything n = elim (isZero n) [ true ↦ [] | false ↦ record { given = noDecisions; redundant = firstOf n } ∷ [] ]
+everything n = elim (isZero n) [ true ↦ [] | false ↦ record { decisions = noDecisions; redundant = firstOf n } ∷ [] ]
 
 -- the first m clauses of the table are book and order
 abbrev pub outcome : ℕ → Ending → List DSequent → State → Outcome
-outcome m x rs s = record { ending = x; decisions = s .decisions; derived = drop m (s .table); records = rs }
+outcome m x rs s = record { ending = x; branchings = s .branchings; derived = drop m (s .table); records = rs }
 
 -- back up from the starting point means "can"
 unfoldable pub finish : ℕ → ℕ → Side → Outcome
 finish n m (up s) = outcome m can (s .records) s
 finish n m (ended can a s) = outcome m can (s .records) s
 finish n m (ended cannot a s) = outcome m cannot (everything n) s
-finish n m (ended outOfDecisions a s) = outcome m outOfDecisions (s .records) s
+finish n m (ended outOfBranchings a s) = outcome m outOfBranchings (s .records) s
 finish n m (ended outOfClauses a s) = outcome m outOfClauses (s .records) s
 
 -- the search from the starting point over the table t
 unfoldable pub searched : ℕ → List Clause → ℕ → ℕ → Side
-searched n t budget places = search (record { n = n; budget = budget; capacity = length t + places }) n noDecisions 0 (start t)
+searched n t allowance places = search (record { n = n; allowance = allowance; capacity = length t + places }) n noDecisions 0 (start t)
 
--- n variables, the book's clauses, the order, how many decisions are allowed, places for derived clauses
+-- n variables, the book's clauses, the order, how many branchings are allowed, places for derived clauses
 unfoldable pub run : ℕ → List Clause → Assumptions → ℕ → ℕ → Outcome
-run n book o budget places = finish n (length (given book o)) (searched n (given book o) budget places)
+run n book o allowance places = finish n (length (given book o)) (searched n (given book o) allowance places)

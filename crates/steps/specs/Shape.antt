@@ -11,7 +11,7 @@ use Rattle.steps.specs.State.{Env, State, Side, Side.up, Side.ended, und
 use Rattle.steps.specs.Enter.{Turn, Turn.back, Turn.satisfiable, Turn.branch}
 use Rattle.steps.specs.Run.{Assumptions}
 
--- document 01: a rule that passes refusals 5 and 6. It names only the n variables, and none with both signs
+-- a rule that passes refusals 5 and 6: it names only the n variables, and none with both signs
 pub record Proper (n : ℕ) (c : Clause) : Type 0 where
   pub named : Within (vars c) (firstOf n)
   pub consistent : meets (c .pos) (c .neg) ≡ false
@@ -27,8 +27,8 @@ pub record Input (n : ℕ) (book : List Clause) (o : Assumptions) : Type 0 where
 
 -- the D-sequent's decisions are among those of a, with their values, and its set is undecided
 pub record Recorded (e : Env) (a : Assignment) (d : DSequent) : Type 0 where
-  pub on : Within (d .given .decided) (a .decided)
-  pub values : d .given .trues ≡ bitAnd (d .given .decided) (a .trues)
+  pub on : Within (d .decisions .decided) (a .decided)
+  pub values : d .decisions .trues ≡ bitAnd (d .decisions .decided) (a .trues)
   pub off : Within (d .redundant) (undecided e a)
 
 -- each set has all of the one before it, the first all of k, and more

@@ -21,7 +21,7 @@ allInactive b w a k r (c ∷ cs) =
 
 -- all clauses with the literal of w and sign b are inactive (`SweepTests`): by which decisions, the last D-sequent's among them
 abbrev pub inactiveBy : Assignment → State → ℕ → Bool → Option ℕ
-inactiveBy a s w b = allInactive b w a (redundant s) (last (s .records) .given .decided) (s .table)
+inactiveBy a s w b = allInactive b w a (redundant s) (last (s .records) .decisions .decided) (s .table)
 
 -- the test for w: its negative literal, or else its positive one
 unfoldable pub monotone : Assignment → State → ℕ → Option ℕ

@@ -1,1 +1,1 @@
-// No code: document 01's steps as definitions, and the demands proved of them.
+// No code: the steps as definitions, and the demands proved of them.

@@ -1,0 +1,27 @@
+-- The marked cases and the further ones have the outcomes beside them, by computation: every definition of the steps computes.
+use mathlib.Core.Path.{refl}
+use lib.Count.{ones, onesIn}
+use Rattle.words.specs.Words.{minus, meets, firstOf, lowest, membersUpTo, members}
+use Rattle.steps.specs.Clause.{vars, keepers, satisfied, falsified, names, undecidedIn, without}
+use Rattle.steps.specs.State.{undecided, live}
+use Rattle.steps.specs.Sweep.{allInactive, monotone, firstMonotone, sweep}
+use Rattle.steps.specs.Enter.{unit, swept, falsifiedNaming, enter}
+use Rattle.steps.specs.Merge.{same, resolvent, join, merge}
+use Rattle.steps.specs.Search.{step, search}
+use Rattle.steps.specs.Run.{units, finish, searched, run}
+use Rattle.steps.specs.Marked.{marked, further}
+use Rattle.steps.specs.Demands.{MarkedCases, FurtherCases}
+
+-- the marked cases
+pub marked-cases : MarkedCases
+unfolding
+    marked minus meets firstOf lowest membersUpTo members ones onesIn vars keepers satisfied falsified names undecidedIn without undecided live
+    allInactive monotone firstMonotone sweep unit swept falsifiedNaming enter same resolvent join merge step search units finish searched run
+marked-cases = refl
+
+-- the further ones
+pub further-cases : FurtherCases
+unfolding
+    further minus meets firstOf lowest membersUpTo members ones onesIn vars keepers satisfied falsified names undecidedIn without undecided live
+    allInactive monotone firstMonotone sweep unit swept falsifiedNaming enter same resolvent join merge step search units finish searched run
+further-cases = refl
