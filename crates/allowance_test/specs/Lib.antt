@@ -1,2 +1,0 @@
--- What the test program's own contracts cite.
-pub mod Lendable

@@ -1,2 +1,0 @@
--- Laws of hexadecimal text.
-pub mod Bytes

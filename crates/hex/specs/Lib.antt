@@ -1,2 +1,0 @@
--- Bytes that are written as hexadecimal digits.
-pub mod Hex

@@ -1,0 +1,4 @@
+-- Laws of the work tables, for every proof that reads or writes one.
+pub mod Lists
+pub mod Tables
+pub mod Demands
