@@ -1,0 +1,13 @@
+-- Laws of refusals, of reading and of the encoder.
+pub mod Refusals
+pub mod Tests
+pub mod Conditions
+pub mod Bytes
+pub mod Readings
+pub mod Accepted
+pub mod Units
+pub mod Placed
+pub mod Putting
+pub mod Encoding
+pub mod RoundTrip
+pub mod Demands

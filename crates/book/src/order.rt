@@ -1,0 +1,58 @@
+// The order: refusals 7 and 8, and its clauses, one of one literal for each wanted or unwanted variable.
+ghost use mathlib.Core.Path.{_≡_};
+ghost use mathlib.Core.List.{List, _++_};
+ghost use Prim.Native.Nat.{ℕ, _+_, _≤_};
+ghost use lib.ListN.{length};
+ghost use Rattle.rows.specs.Rows.{clauseWords, clauses as Clauses};
+ghost use Rattle.rows.specs.Values.{clauseOf};
+ghost use Rattle.book.specs.Reading.{readOrder};
+ghost use Rattle.book.specs.Values.{assumptionsOf, readingOf};
+ghost use Rattle.book.specs.Order.{unitOf, unitsOf};
+use crate::Assumptions;
+use crate::Book;
+use crate::Reading;
+use crate::judge::names_above;
+use rows::clause::Clause;
+use rows::table;
+
+// The refusal of an order to a book, or the book, whatever its clauses are.
+pub fn judge_order(b: Book, o: Assumptions) -> Reading
+    ensures { λ r. ⌜ ((t : List ℕ) → readingOf r t ≡ readOrder (b .vars) (Clauses t (b .clauses)) (assumptionsOf o)) ⌝ }
+{
+    let above = names_above(b.vars, o.pos, o.neg);
+    let both = words::meets(o.pos, o.neg);
+    if above {
+        return Reading::Refused(7);
+    }
+    if both {
+        return Reading::Refused(8);
+    }
+    Reading::Book(b)
+}
+
+// The clause of one literal, a positive one for true.
+fn unit_of(positive: bool, word: u64) -> Clause
+    ensures { λ r. ⌜ clauseOf r ≡ unitOf positive word ⌝ }
+{
+    if positive {
+        Clause { pos: word, neg: 0 }
+    } else {
+        Clause { pos: 0, neg: word }
+    }
+}
+
+// Puts a clause for each member of `word`, lowest first, into a table that has so many clauses, and gives how many it then has.
+pub fn add_units(positive: bool, word: u64, clauses: usize, t: &mut [u64]) -> usize
+    requires { ⌜ clauseWords (clauses + length (unitsOf positive word)) ≤ length (now t) ⌝ }
+    ensures { λ r. ⌜ Clauses (now (t .exit)) r ≡ Clauses (now (t .entry)) clauses ++ unitsOf positive word ⌝ }
+{
+    let mut rest = word;
+    let mut count = clauses;
+    while rest != 0 {
+        let lowest = words::lowest_of(rest);
+        table::put(t, count, unit_of(positive, lowest));
+        rest = words::minus(rest, lowest);
+        count += 1;
+    }
+    count
+}
