@@ -7,12 +7,12 @@ use borrow.Author.Tests.{lt-ltb, le-ltb}
 use lib.Dec.{ltb}
 use Rattle.steps.specs.Lists.{any}
 use Rattle.steps.specs.Clause.{Assignment, decide, last, without}
-use Rattle.steps.specs.State.{Env, State, Ending, Ending.cannot, Ending.outOfDecisions, Side, Side.up, Side.ended, Search, recorded, counted}
+use Rattle.steps.specs.State.{Env, State, Ending, Ending.cannot, Ending.outOfBranchings, Side, Side.up, Side.ended, Search, recorded, counted}
 use Rattle.steps.specs.Enter.{Turn, Turn.back, Turn.satisfiable, Turn.branch, enter}
 use Rattle.steps.specs.Merge.{merge}
 use Rattle.steps.specs.Search.{isEmpty, afterFirst, afterSecond, proceed, step, search}
-use Rattle.search.specs.Tables.{halted}
-use Rattle.search.proofs.Cases.{when-true}
+use Rattle.search.specs.Values.{halted}
+use Rattle.words.proofs.Truth.{when-true}
 
 -- every search is a point with some search below it
 below : Env → ℕ → Search
@@ -43,16 +43,16 @@ module _ (e : Env) (k : ℕ) (a : Assignment) (v : ℕ) (s : State) where
 
   module _ (w : ℕ) (b : Bool) (t : State) (z : any isEmpty (s .table) ≡ false) (f : enter e a v s ≡ branch w b t) where
     -- stop 10
-    pub search-spent : e .budget ≤ t .decisions → ended outOfDecisions a t ≡ search e k a v s
-    search-spent l = (let h = le-ltb (t .decisions) (e .budget) l in rw (h, proceed) at (search-turn z (branch w b t) f))
+    pub search-spent : e .allowance ≤ t .branchings → ended outOfBranchings a t ≡ search e k a v s
+    search-spent l = (let h = le-ltb (t .branchings) (e .allowance) l in rw (h, proceed) at (search-turn z (branch w b t) f))
 
     -- step 5: the first side, with one variable fewer undecided
-    module _ (j : ℕ) (fewer : k ≡ suc j) (room : t .decisions < e .budget) where
+    module _ (j : ℕ) (fewer : k ≡ suc j) (room : t .branchings < e .allowance) where
       search-first : (x : Side) → search e j (decide a w b) 0 (counted t) ≡ x → afterFirst e (search e j) a w b x ≡ search e k a v s
       unfolding below
       search-first x g =
           ap (afterFirst e (search e j) a w b) (sym g)
-          ∙ sym (when-true (ltb (t .decisions) (e .budget)) _ _ (lt-ltb (t .decisions) (e .budget) room))
+          ∙ sym (when-true (ltb (t .branchings) (e .allowance)) _ _ (lt-ltb (t .branchings) (e .allowance) room))
           ∙ ap (λ (i : ℕ). proceed e (below e i) a (branch w b t)) (sym fewer)
           ∙ search-turn z (branch w b t) f
 
@@ -63,8 +63,8 @@ module _ (e : Env) (k : ℕ) (a : Assignment) (v : ℕ) (s : State) where
       -- step 6: the second side
       module _ (u : State) (g : search e j (decide a w b) 0 (counted t) ≡ up u) where
         second : (x : Side) → search e j (decide a w (not b)) w (recorded (without w (u .records)) u) ≡ x →
-            afterSecond e a w b (last (u .records) .given .decided) x ≡ search e k a v s
-        second x h = ap (afterSecond e a w b (last (u .records) .given .decided)) (sym h) ∙ search-first (up u) g
+            afterSecond e a w b (last (u .records) .decisions .decided) x ≡ search e k a v s
+        second x h = ap (afterSecond e a w b (last (u .records) .decisions .decided)) (sym h) ∙ search-first (up u) g
 
         -- the second side ends the run
         pub second-ended :
@@ -75,5 +75,5 @@ module _ (e : Env) (k : ℕ) (a : Assignment) (v : ℕ) (s : State) where
         -- step 7
         pub both-up :
             (x : State) → search e j (decide a w (not b)) w (recorded (without w (u .records)) u) ≡ up x →
-            merge e a w b (last (u .records) .given .decided) x ≡ search e k a v s
+            merge e a w b (last (u .records) .decisions .decided) x ≡ search e k a v s
         both-up x h = second (up x) h

@@ -13,7 +13,7 @@ use Rattle.words.specs.Words.{Within}
 use Rattle.steps.specs.Lists.{any}
 use Rattle.steps.specs.Clause.{decide, last, without, DSequent}
 use Rattle.steps.specs.Clause as clause
-use Rattle.steps.specs.State.{State, Side as StepSide, Side.ended, Ending.outOfDecisions, undecided, live, recorded, counted}
+use Rattle.steps.specs.State.{State, Side as StepSide, Side.ended, Ending.outOfBranchings, undecided, live, recorded, counted}
 use Rattle.steps.specs.Enter.{Turn, Turn.branch, enter}
 use Rattle.steps.specs.Merge.{merge}
 use Rattle.steps.specs.Search.{isEmpty, search}
@@ -24,18 +24,21 @@ use Rattle.steps.proofs.Places.{one-of-more}
 use Rattle.steps.proofs.ShapeEnter.{shape-enter}
 use Rattle.steps.proofs.ShapeKeep.{last-recorded, live-undecided}
 use Rattle.steps.proofs.ShapeSides.{shape-first, shape-second}
-use Rattle.search.specs.Values.{assignmentOf, envOf}
-use Rattle.search.specs.Tables.{clauses, sequents, stateOf, sideOf}
-use Rattle.search.specs.Needs.{Point, Kept, Mergeable}
-use Rattle.search.specs.declared.clause.Assignment.{Assignment}
-use Rattle.search.specs.declared.merge.Ending.{Ending}
-use Rattle.search.specs.declared.merge.Side.{Side}
-use Rattle.search.specs.declared.merge.Side.the-variants as side
-use Rattle.search.specs.declared.state.Counts.{Counts}
-use Rattle.search.specs.declared.state.Env.{Env}
+use Rattle.rows.specs.Values.{assignmentOf, envOf}
+use Rattle.rows.specs.Rows.{clauses, sequents, stateOf}
+use Rattle.merge.specs.Sides.{sideOf}
+use Rattle.search.specs.Needs.{Point}
+use Rattle.merge.specs.Needs.{Mergeable}
+use Rattle.rows.specs.Rows.{Kept}
+use Rattle.rows.specs.declared.clause.Assignment.{Assignment}
+use Rattle.merge.specs.declared.Ending.{Ending}
+use Rattle.merge.specs.declared.Side.{Side}
+use Rattle.merge.specs.declared.Side.the-variants as side
+use Rattle.rows.specs.declared.state.Counts.{Counts}
+use Rattle.rows.specs.declared.state.Env.{Env}
 use Rattle.search.proofs.Branching as branching
 use Rattle.search.proofs.Points.{up-point}
-use Rattle.search.proofs.Tables.{as-many}
+use Rattle.rows.proofs.Tables.{as-many}
 
 -- a point with n undecided variables, and the branching over w, b first, that `enter` found there. It left the list in rs′
 pub record Turned : Type 0 where
@@ -64,7 +67,7 @@ abbrev found : Turned → State
 found x = stateOf (x .t) (x .rs′) (x .here)
 
 abbrev opening : Turned → Counts
-opening x = record { clauses = x .here .clauses; records = x .here .records; decisions = x .here .decisions + 1 }
+opening x = record { clauses = x .here .clauses; records = x .here .records; branchings = x .here .branchings + 1 }
 
 -- the decisions of a side
 abbrev toward : Turned → Bool → clause.Assignment
@@ -111,12 +114,12 @@ module _ (x : Turned) where
   falls d b is = omega (arith, fewer b, ap (λ (y : clause.Assignment). ones (undecided (envOf (x .e)) y)) is, x .measure)
 
   -- stop 10
-  pub spent : x .e .budget ≤ x .here .decisions → ended outOfDecisions (assignmentOf (x .a)) (found x) ≡ outcome x
+  pub spent : x .e .allowance ≤ x .here .branchings → ended outOfBranchings (assignmentOf (x .a)) (found x) ≡ outcome x
   spent l = branching.search-spent _ _ _ _ _ _ _ _ (x .point .none-empty) (sym (x .turn)) l
 
 -- the first side opens, with the decisions a₁
 pub record Opened (x : Turned) : Type 0 where
-  pub room : x .here .decisions < x .e .budget
+  pub room : x .here .branchings < x .e .allowance
   pub a₁ : Assignment
   pub decided : assignmentOf a₁ ≡ toward x (x .b)
 
@@ -130,7 +133,7 @@ first-point {x} o =
       vars = x .point .vars;
       capacity = x .point .capacity;
       clauses = omega (arith, same-clauses x, x .point .clauses);
-      decisions = omega (arith, o .room);
+      branchings = omega (arith, o .room);
       none-empty = ap (λ (n : ℕ). any isEmpty (clauses (x .t) n)) (same-clauses x) ∙ x .point .none-empty;
       room = omega (arith, x .same, x .point .room);
       shape =
@@ -138,8 +141,8 @@ first-point {x} o =
           (λ (y : clause.Assignment). Shape (envOf (x .e)) y (stateOf (x .t) (x .rs′) (opening x)))
           (o .decided)
           (subst⁻¹
-          (λ (n : ℕ). Shape (envOf (x .e)) (toward x (x .b)) (record { table = found x .table; records = found x .records; decisions = n }))
-          (add-one (x .here .decisions))
+          (λ (n : ℕ). Shape (envOf (x .e)) (toward x (x .b)) (record { table = found x .table; records = found x .records; branchings = n }))
+          (add-one (x .here .branchings))
           (shape-first (envOf (x .e)) (assignmentOf (x .a)) (x .w) (x .b) (found x) (turn-shape x .0) (turn-shape x .1)));
     }
 
@@ -162,8 +165,8 @@ first-comes {x} {o} f =
     f .comes
     ∙ ap (λ (y : clause.Assignment). search (envOf (x .e)) (ones (undecided (envOf (x .e)) y)) y 0 (stateOf (x .t) (x .rs′) (opening x))) (o .decided)
     ∙ ap
-    (λ (n : ℕ). search (envOf (x .e)) (rest x) (toward x (x .b)) 0 (record { table = found x .table; records = found x .records; decisions = n }))
-    (add-one (x .here .decisions))
+    (λ (n : ℕ). search (envOf (x .e)) (rest x) (toward x (x .b)) 0 (record { table = found x .table; records = found x .records; branchings = n }))
+    (add-one (x .here .branchings))
 
 -- the first side ends the run
 pub first-ended :
@@ -199,7 +202,7 @@ module _ {x : Turned} {o : Opened x} {f : First o} {u : FirstUp f} where
   one-state y = stateOf (f .t₁) (f .rs₁) (u .one)
 
   abbrev crossing : Crossed u → Counts
-  crossing y = record { clauses = u .one .clauses; records = y .k; decisions = u .one .decisions }
+  crossing y = record { clauses = u .one .clauses; records = y .k; branchings = u .one .branchings }
 
   -- its state is the definition's
   second-state : (y : Crossed u) → stateOf (f .t₁) (y .rs₂) (crossing y) ≡ recorded (without (x .w) (one-state y .records)) (one-state y)
@@ -216,7 +219,7 @@ module _ {x : Turned} {o : Opened x} {f : First o} {u : FirstUp f} where
         vars = p .vars;
         capacity = p .capacity;
         clauses = p .clauses;
-        decisions = p .decisions;
+        branchings = p .branchings;
         none-empty = p .none-empty;
         room = omega (arith, y .same, p .room);
         shape =
@@ -278,7 +281,7 @@ module _ {x : Turned} {o : Opened x} {f : First o} {u : FirstUp f} {y : Crossed 
   -- the second side goes back up; r is the first side's last decisions
   module _ (two : Counts) (is : z .result ≡ side.Up two) (r : DSequent) (last-is : r ≡ last (sequents (f .rs₁) (u .one .records))) where
     -- what `merge` asks
-    pub mergeable : Mergeable (z .t₂) (z .rs₃) (x .e) (x .a) (x .w) (x .b) (r .given .decided) two
+    pub mergeable : Mergeable (z .t₂) (z .rs₃) (x .e) (x .a) (x .w) (x .b) (r .decisions .decided) two
     mergeable =
         let p : Point (z .t₂) (z .rs₃) (x .e) (y .a₂) two = up-point _ _ (second-point y) (z .same-table) (z .same-list) (sym (ap (sideOf (z .t₂) (z .rs₃)) is) ∙ z .comes) in
         record {
@@ -290,20 +293,20 @@ module _ {x : Turned} {o : Opened x} {f : First o} {u : FirstUp f} {y : Crossed 
           trues = x .point .shape .trues;
           first =
               subst⁻¹
-              (λ (d : DSequent). Within (d .given .decided) (toward x (x .b) .decided))
+              (λ (d : DSequent). Within (d .decisions .decided) (toward x (x .b) .decided))
               last-is
               (subst
-              (λ (d : clause.Assignment). Within (last (sequents (f .rs₁) (u .one .records)) .given .decided) (d .decided))
+              (λ (d : clause.Assignment). Within (last (sequents (f .rs₁) (u .one .records)) .decisions .decided) (d .decided))
               (o .decided)
               (last-recorded (envOf (x .e)) (assignmentOf (o .a₁)) (one-state y) (one-point u .shape) .on));
           second = subst (λ (d : clause.Assignment). Shape (envOf (x .e)) d (stateOf (z .t₂) (z .rs₃) two)) (y .decided) (p .shape);
         }
 
     -- step 7
-    pub merged : merge (envOf (x .e)) (assignmentOf (x .a)) (x .w) (x .b) (r .given .decided) (stateOf (z .t₂) (z .rs₃) two) ≡ outcome x
+    pub merged : merge (envOf (x .e)) (assignmentOf (x .a)) (x .w) (x .b) (r .decisions .decided) (stateOf (z .t₂) (z .rs₃) two) ≡ outcome x
     merged =
         ap
-        (λ (d : DSequent). merge (envOf (x .e)) (assignmentOf (x .a)) (x .w) (x .b) (d .given .decided) (stateOf (z .t₂) (z .rs₃) two))
+        (λ (d : DSequent). merge (envOf (x .e)) (assignmentOf (x .a)) (x .w) (x .b) (d .decisions .decided) (stateOf (z .t₂) (z .rs₃) two))
         last-is
         ∙
         branching.both-up _ _ _ _ _ _ _ _ (x .point .none-empty) (sym (x .turn)) _ (fewer x (x .b)) (o .room) _ first-up _ (sym second-comes ∙ ap (sideOf (z .t₂) (z .rs₃)) is)

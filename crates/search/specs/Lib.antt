@@ -1,4 +1,3 @@
--- How the engine's values and work tables stand for what `steps` speaks of.
+-- How the engine's values stand for what `steps` speaks of, and what its functions ask.
 pub mod Values
-pub mod Tables
 pub mod Needs

@@ -1,48 +1,31 @@
--- The engine's structs and enums as the values of `steps`.
-use mathlib.Core.Option.{Option, some, none}
-use Prim.Native.Nat.{ℕ}
-use Rattle.steps.specs.Clause as clause
+-- What a run hands out, and what a turn that does not branch comes to.
+use mathlib.Core.Path.{_≡_}
+use mathlib.Core.List.{List}
+use Prim.Native.Nat.{ℕ, _-_}
+use Rattle.steps.specs.Clause.{Assignment}
 use Rattle.steps.specs.State as state
-use Rattle.steps.specs.Sweep as sweep
-use Rattle.search.specs.declared.clause.Clause.{Clause}
-use Rattle.search.specs.declared.clause.Assignment.{Assignment}
-use Rattle.search.specs.declared.records.DSequent.{DSequent}
-use Rattle.search.specs.declared.state.Env.{Env}
-use Rattle.search.specs.declared.table.Lookup.{Lookup}
-use Rattle.search.specs.declared.table.Lookup.the-variants as lookup
-use Rattle.search.specs.declared.sweep.Reason.{Reason}
-use Rattle.search.specs.declared.sweep.Reason.the-variants as reason
-use Rattle.search.specs.declared.sweep.Strike.{Strike}
-use Rattle.search.specs.declared.sweep.Strike.the-variants as strike
-use Rattle.search.specs.declared.merge.Ending.{Ending}
-use Rattle.search.specs.declared.merge.Ending.the-variants as ending
+use Rattle.steps.specs.State.{Side.up, Side.ended}
+use Rattle.steps.specs.Enter as step
+use Rattle.steps.specs.Enter.{Turn.back, Turn.satisfiable, Turn.branch}
+use Rattle.steps.specs.Run.{Outcome}
+use Rattle.answer.specs.Answer.{tallyIn, ofOutcome}
+use Rattle.answer.specs.declared.Answer.{Answer}
+use Rattle.answer.specs.declared.Tally.{Tally}
+use Rattle.rows.specs.Rows.{clausesFrom, sequents}
+use Rattle.rows.specs.declared.state.Counts.{Counts}
 
-abbrev pub clauseOf : Clause → clause.Clause
-clauseOf c = record { pos = c .pos; neg = c .neg }
+-- the counts, where the first m clauses are book and order
+abbrev pub tallyFrom : Counts → ℕ → Tally
+tallyFrom s m = record { branchings = s .branchings; derived = s .clauses - m; records = s .records }
 
-abbrev pub assignmentOf : Assignment → clause.Assignment
-assignmentOf a = record { decided = a .decided; trues = a .trues }
+-- an answer that tells the outcome x, whose derived clauses stand after the first m of the one table, and whose D-sequents begin the other
+pub record Handed (t rs : List ℕ) (m : ℕ) (r : Answer) (x : Outcome) : Type 0 where
+  pub answer : r ≡ ofOutcome x
+  pub derived : clausesFrom t m (tallyIn r .derived) ≡ x .derived
+  pub records : sequents rs (tallyIn r .records) ≡ x .records
 
-abbrev pub sequentOf : DSequent → clause.DSequent
-sequentOf d = record { given = record { decided = d .decided; trues = d .trues }; redundant = d .redundant }
-
-abbrev pub envOf : Env → state.Env
-envOf e = record { n = e .vars; budget = e .budget; capacity = e .capacity }
-
-abbrev pub foundOf : Lookup → Option clause.Clause
-foundOf (lookup.Found c) = some (clauseOf c)
-foundOf lookup.Nothing = none
-
-abbrev pub reasonOf : Reason → Option ℕ
-reasonOf (reason.By r) = some r
-reasonOf reason.Nothing = none
-
-abbrev pub strikeOf : Strike → sweep.Found
-strikeOf (strike.Variable w r) = sweep.variable w r
-strikeOf strike.Nothing = sweep.nothing
-
-abbrev pub endingOf : Ending → state.Ending
-endingOf ending.Can = state.Ending.can
-endingOf ending.Cannot = state.Ending.cannot
-endingOf ending.OutOfDecisions = state.Ending.outOfDecisions
-endingOf ending.OutOfClauses = state.Ending.outOfClauses
+-- what a turn that does not branch comes to
+abbrev pub halted : Assignment → step.Turn → state.Side
+halted a (back s) = up s
+halted a (satisfiable s) = ended state.Ending.can a s
+halted a (branch v b s) = up s

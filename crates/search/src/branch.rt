@@ -5,19 +5,20 @@ ghost use Prim.Native.Nat.{ℕ};
 ghost use lib.Count.{ones};
 ghost use Rattle.steps.specs.State.{undecided as Undecided};
 ghost use Rattle.steps.specs.Search.{search};
-ghost use Rattle.search.specs.Values.{assignmentOf, envOf};
-ghost use Rattle.search.specs.Tables.{stateOf, turnOf, sideOf, halted};
+ghost use Rattle.rows.specs.Values.{assignmentOf, envOf};
+ghost use Rattle.rows.specs.Rows.{stateOf};
+ghost use Rattle.enter.specs.Turns.{turnOf};
+ghost use Rattle.merge.specs.Sides.{sideOf};
+ghost use Rattle.search.specs.Values.{halted};
 ghost use Rattle.search.specs.Needs.{Point};
-use super::clause;
-use super::clause::Assignment;
-use super::enter;
-use super::enter::Turn;
-use super::merge;
-use super::merge::Ending;
-use super::merge::Side;
-use super::records;
-use super::state::Counts;
-use super::state::Env;
+use enter::Turn;
+use merge::Ending;
+use merge::Side;
+use rows::clause;
+use rows::clause::Assignment;
+use rows::records;
+use rows::state::Counts;
+use rows::state::Env;
 
 // What a turn that does not branch comes to.
 pub fn not_branching(turn: Turn, a: Assignment) -> Side
@@ -39,13 +40,13 @@ pub fn branch(t: &mut [u64], rs: &mut [u64], e: Env, a: Assignment, v: u64, s: C
     let Turn::Branch(w, b, here) = turn else {
         return not_branching(turn, a);
     };
-    if e.budget <= here.decisions {
-        return Side::Ended(Ending::OutOfDecisions, a, here);
+    if e.allowance <= here.branchings {
+        return Side::Ended(Ending::OutOfBranchings, a, here);
     }
     let down = Counts {
         clauses: here.clauses,
         records: here.records,
-        decisions: here.decisions + 1,
+        branchings: here.branchings + 1,
     };
     let first = branch(t, rs, e, clause::decide(a, w, b), 0, down);
     let Side::Up(one) = first else {
@@ -56,7 +57,7 @@ pub fn branch(t: &mut [u64], rs: &mut [u64], e: Env, a: Assignment, v: u64, s: C
     let over = Counts {
         clauses: one.clauses,
         records: k,
-        decisions: one.decisions,
+        branchings: one.branchings,
     };
     let second = branch(t, rs, e, clause::decide(a, w, !b), w, over);
     let Side::Up(two) = second else {

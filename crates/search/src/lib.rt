@@ -1,10 +1,3 @@
-// The engine: document 01's steps on two work tables, each function equal to its definition in the crate `steps`.
-pub mod branch;
-pub mod clause;
-pub mod enter;
-pub mod merge;
-pub mod records;
+// The branching step, which calls itself on each side, and a run. Each function is equal to its definition in the crate `steps`.
+mod branch;
 pub mod run;
-pub mod state;
-pub mod sweep;
-pub mod table;

@@ -1,34 +1,61 @@
 // A run: the search from the starting point, and step 1's list where it ends with "cannot".
 ghost use mathlib.Core.Path.{_≡_};
 ghost use mathlib.Core.List.{List};
-ghost use Prim.Native.Nat.{ℕ, _*_, _≤_};
+ghost use Prim.Native.Nat.{ℕ, _≤_};
 ghost use lib.ListN.{length};
 ghost use Rattle.steps.specs.Run.{everything as Everything, finish as Finish, noDecisions, start};
 ghost use Rattle.steps.specs.Search.{search};
 ghost use Rattle.steps.specs.Clause.{Assignment as Decisions};
 ghost use Rattle.steps.specs.State.{Side.ended as Ended};
-ghost use Rattle.search.specs.Values.{envOf, endingOf};
-ghost use Rattle.search.specs.Tables.{clauses, sequents, stateOf, sideOf, outcomeOf};
+ghost use Rattle.answer.specs.Answer.{endOf};
+ghost use Rattle.rows.specs.Values.{envOf};
+ghost use Rattle.rows.specs.Rows.{clauses, sequentWords, sequents, stateOf};
+ghost use Rattle.merge.specs.Sides.{endingOf, sideOf};
+ghost use Rattle.search.specs.Values.{tallyFrom, Handed};
 ghost use Rattle.search.specs.Needs.{Startable};
 use super::branch;
-use super::clause::Assignment;
-use super::merge::Ending;
-use super::merge::Side;
-use super::records;
-use super::records::DSequent;
-use super::state::Counts;
-use super::state::Env;
-use super::table;
+use answer::Answer;
+use answer::Tally;
+use merge::Ending;
+use merge::Side;
+use rows::clause::Assignment;
+use rows::records;
+use rows::records::DSequent;
+use rows::state::Counts;
+use rows::state::Env;
+use rows::table;
 
-// How a run ended, and how many clauses, D-sequents and decisions there are.
-pub struct Finished {
-    pub ending: Ending,
-    pub counts: Counts,
+// The counts, of a table of which m clauses are book and order.
+fn tally(s: Counts, m: usize) -> Tally
+    ensures { λ r. ⌜ r ≡ tallyFrom s m ⌝ }
+{
+    let k = s.clauses;
+    let mut derived = 0;
+    if m < k {
+        derived = k - m;
+    }
+    Tally {
+        branchings: s.branchings,
+        derived: derived,
+        records: s.records,
+    }
+}
+
+// A verdict, or the number of a stop.
+fn told(ending: Ending, tally: Tally) -> Answer
+    ensures { λ r. ⌜ r ≡ endOf (endingOf ending) tally ⌝ }
+{
+    match ending {
+        Ending::Can => Answer::Can(tally),
+        Ending::Cannot => Answer::Cannot(tally),
+        Ending::OutOfBranchings => Answer::Stopped(answer::STOP_BRANCHINGS, tally),
+        Ending::OutOfClauses => Answer::Stopped(answer::STOP_PLACES, tally),
+    }
 }
 
 // Step 1's list: no decisions and all variables, or nothing where there is no variable. Answers how many D-sequents it has.
-pub fn everything(rs: &mut [u64], vars: u32) -> usize
-    requires { ⌜ (vars ≤ 64) × (3 * vars ≤ length (now rs)) ⌝ }
+fn everything(rs: &mut [u64], vars: u32) -> usize
+    requires { ⌜ (vars ≤ 64) × (sequentWords vars ≤ length (now rs)) ⌝ }
     ensures { λ r. ⌜ sequents (now (rs .exit)) r ≡ Everything vars ⌝ }
 {
     if vars == 0 {
@@ -47,46 +74,38 @@ pub fn everything(rs: &mut [u64], vars: u32) -> usize
 }
 
 // The end of a run that a verdict or a stop ended: "cannot" hands out step 1's list.
-pub fn ended(rs: &mut [u64], vars: u32, ending: Ending, s: Counts) -> Finished
-    requires { ⌜ (vars ≤ 64) × (3 * vars ≤ length (now rs)) ⌝ }
-    ensures { λ r. ⌜ ((t : List ℕ) (m : ℕ) (a : Decisions) → outcomeOf t (now (rs .exit)) m r ≡ Finish vars m (Ended (endingOf ending) a (stateOf t (now (rs .entry)) s))) ⌝ }
+fn ended(rs: &mut [u64], vars: u32, m: usize, ending: Ending, s: Counts) -> Answer
+    requires { ⌜ (vars ≤ 64) × (sequentWords vars ≤ length (now rs)) ⌝ }
+    ensures { λ r. ⌜ ((t : List ℕ) (a : Decisions) → Handed t (now (rs .exit)) m r (Finish vars m (Ended (endingOf ending) a (stateOf t (now (rs .entry)) s)))) ⌝ }
 {
     let Ending::Cannot = ending else {
-        return Finished {
-            ending: ending,
-            counts: s,
-        };
+        return told(ending, tally(s, m));
     };
     let k = everything(rs, vars);
-    Finished {
-        ending: ending,
-        counts: Counts {
-            clauses: s.clauses,
-            records: k,
-            decisions: s.decisions,
-        },
-    }
+    let all = Counts {
+        clauses: s.clauses,
+        records: k,
+        branchings: s.branchings,
+    };
+    told(ending, tally(all, m))
 }
 
 // The end of a run. Back up from the starting point means "can".
-pub fn finish(rs: &mut [u64], vars: u32, side: Side) -> Finished
-    requires { ⌜ (vars ≤ 64) × (3 * vars ≤ length (now rs)) ⌝ }
-    ensures { λ r. ⌜ ((t : List ℕ) (m : ℕ) → outcomeOf t (now (rs .exit)) m r ≡ Finish vars m (sideOf t (now (rs .entry)) side)) ⌝ }
+fn finish(rs: &mut [u64], vars: u32, m: usize, side: Side) -> Answer
+    requires { ⌜ (vars ≤ 64) × (sequentWords vars ≤ length (now rs)) ⌝ }
+    ensures { λ r. ⌜ ((t : List ℕ) → Handed t (now (rs .exit)) m r (Finish vars m (sideOf t (now (rs .entry)) side))) ⌝ }
 {
     match side {
-        Side::Up(s) => Finished {
-            ending: Ending::Can,
-            counts: s,
-        },
-        Side::Ended(ending, _, s) => ended(rs, vars, ending, s),
+        Side::Up(s) => told(Ending::Can, tally(s, m)),
+        Side::Ended(ending, _, s) => ended(rs, vars, m, ending, s),
     }
 }
 
 // The run over the first m clauses of the table, which are book and order. Step 1 is asked here: below the starting point the empty clause can only be one that
 // step 7 has just derived, which ends the run there.
-pub fn run(t: &mut [u64], rs: &mut [u64], e: Env, m: usize) -> Finished
+pub fn run(t: &mut [u64], rs: &mut [u64], e: Env, m: usize) -> Answer
     requires { ⌜ Startable (now t) (now rs) e m ⌝ }
-    ensures { λ r. ⌜ outcomeOf (now (t .exit)) (now (rs .exit)) m r ≡ Finish (e .vars) m (search (envOf e) (e .vars) noDecisions 0 (start (clauses (now (t .entry)) m))) ⌝ }
+    ensures { λ r. ⌜ Handed (now (t .exit)) (now (rs .exit)) m r (Finish (e .vars) m (search (envOf e) (e .vars) noDecisions 0 (start (clauses (now (t .entry)) m)))) ⌝ }
 {
     let none = Assignment {
         decided: 0,
@@ -95,11 +114,11 @@ pub fn run(t: &mut [u64], rs: &mut [u64], e: Env, m: usize) -> Finished
     let begin = Counts {
         clauses: m,
         records: 0,
-        decisions: 0,
+        branchings: 0,
     };
     if table::holds_empty(t, m) {
-        return finish(rs, e.vars, Side::Ended(Ending::Cannot, none, begin));
+        return finish(rs, e.vars, m, Side::Ended(Ending::Cannot, none, begin));
     }
     let side = branch::branch(t, rs, e, none, 0, begin);
-    finish(rs, e.vars, side)
+    finish(rs, e.vars, m, side)
 }

@@ -15,23 +15,24 @@ use borrow.Fn.Kinds.{In}
 use borrow.Fn.PlainCycle.{Measures, is, falls, and}
 use Rattle.steps.specs.State.{State, undecided}
 use Rattle.steps.specs.Enter.{Turn.branch}
-use Rattle.search.specs.Values.{assignmentOf, envOf, sequentOf}
-use Rattle.search.specs.Tables.{turnOf}
-use Rattle.search.specs.declared.enter.Turn as code
-use Rattle.search.specs.declared.enter.Turn.the-variants as turn
+use Rattle.rows.specs.Values.{assignmentOf, envOf, sequentOf}
+use Rattle.enter.specs.Turns.{turnOf}
+use Rattle.enter.specs.declared.Turn as code
+use Rattle.enter.specs.declared.Turn.the-variants as turn
 use Rattle.search.proofs.Branching.{search-halted}
-use Rattle.search.proofs.Points.{ready, list-fits}
+use Rattle.search.proofs.Points.{ready}
+use Rattle.sweep.proofs.Points.{list-fits}
 use Rattle.search.proofs.Sides.{Turned, Opened, First, FirstUp, Crossed, Second, spent, first-falls, first-point, first-ended, one-point, second-falls, second-point, tables-same, lists-same, second-ended, mergeable, merged}
-use Rattle.search.proofs.enter.Turn.{the-type}
+use Rattle.enter.proofs.Turn.{the-type}
 use Rattle.search.proofs.branch.branch.Reads as branch-reads
 use Rattle.search.proofs.branch.branch.Kinds as branch-kinds
 use Rattle.search.proofs.branch.+branch.Lts-branch as lts
 use Rattle.search.proofs.branch.not_branching.Reads as not-branching
-use Rattle.search.proofs.clause.decide.Reads as decide-reads
-use Rattle.search.proofs.enter.enter.Reads as enter-reads
-use Rattle.search.proofs.merge.merge.Reads as merge-reads
-use Rattle.search.proofs.records.last.Reads as last-reads
-use Rattle.search.proofs.records.without.Reads as without-reads
+use Rattle.rows.proofs.clause.decide.Reads as decide-reads
+use Rattle.enter.proofs.enter.Reads as enter-reads
+use Rattle.merge.proofs.merge.Reads as merge-reads
+use Rattle.rows.proofs.records.last.Reads as last-reads
+use Rattle.rows.proofs.records.without.Reads as without-reads
 use Rattle.search.proofs.branch.+branch.{statement}
 use Rattle.search.proofs.branch.+branch.Tie.{close}
 

@@ -1,9 +1,10 @@
 -- `search::branch::not_branching` meets its contract: the code goes by the turn, as the definition does. Assumes nothing.
 use mathlib.Core.Path.{ap, sym}
 use borrow.Author.Needs.{needs}
-use Rattle.search.specs.Values.{assignmentOf}
-use Rattle.search.specs.Tables.{turnOf, halted}
-use Rattle.search.specs.declared.enter.Turn.{Turn}
+use Rattle.rows.specs.Values.{assignmentOf}
+use Rattle.enter.specs.Turns.{turnOf}
+use Rattle.search.specs.Values.{halted}
+use Rattle.enter.specs.declared.Turn.{Turn}
 use Rattle.search.proofs.branch.not_branching.Statement.{statement}
 use Rattle.search.proofs.branch.not_branching.Tie as tie
 

@@ -8,9 +8,9 @@ use borrow.Author.Needs.{needs}
 use Rattle.words.specs.Words.{isZero, firstOf}
 use Rattle.words.proofs.Sets.{nonzero}
 use Rattle.steps.specs.Clause.{DSequent}
-use Rattle.search.specs.Tables.{sequents}
-use Rattle.search.proofs.Cases.{when-true, when-false}
-use Rattle.search.proofs.Tables.{put-at-end}
+use Rattle.rows.specs.Rows.{sequents}
+use Rattle.words.proofs.Truth.{when-true, when-false}
+use Rattle.rows.proofs.Tables.{put-at-end}
 use Rattle.search.proofs.run.everything.Statement.{statement}
 use Rattle.search.proofs.run.everything.Tie as tie
 
@@ -37,10 +37,10 @@ returns-2 c =
     let few : min n 64 ≡ n = omega (arith, start .pre .0) in
     ap (λ (l : List ℕ). sequents l 1) (c .before .before .put .ensures)
     ∙
-    put-at-end (start .args .rs .now) 0 0 0 (c .before .before .before .first-of .result) (omega (arith, some, start .pre .1))
+    put-at-end (start .args .rs .now) 0 _ (omega (arith, some, start .pre .1))
     ∙
     ap
-    (λ (x : ℕ). only (record { given = record { decided = 0; trues = 0 }; redundant = x }))
+    (λ (x : ℕ). only (record { decisions = record { decided = 0; trues = 0 }; redundant = x }))
     (c .before .before .before .first-of .ensures ∙ ap firstOf few)
     ∙
     sym (when-false (isZero n) _ _ (nonzero n some))

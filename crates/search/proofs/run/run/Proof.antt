@@ -1,7 +1,7 @@
 -- `search::run::run` meets its contract: step 1 is asked once; else the starting point has the shape of a point, all its variables are undecided, and the rest is `branch` and `finish`.
 -- Assumes nothing.
-use mathlib.Core.Path.{_≡_, ap, sym, _∙_}
-use Prim.Native.Nat.{ℕ, _-_, _*_, _≤_}
+use mathlib.Core.Path.{_≡_, ap, sym, subst, _∙_}
+use Prim.Native.Nat.{ℕ, _-_, _≤_}
 use native.Mathlib.Nat.{sub-zero}
 use native.Mathlib.Omega.{arith}
 use borrow.Author.Needs.{needs}
@@ -10,12 +10,13 @@ use lib.Count.{ones}
 use lib.ListN.{length}
 use Rattle.words.specs.Words.{minus, firstOf}
 use Rattle.words.proofs.Count.{ones-firstOf}
-use Rattle.steps.specs.State.{Env, undecided}
+use Rattle.steps.specs.State.{Env, Side, undecided}
 use Rattle.steps.specs.Run.{noDecisions, start, finish}
 use Rattle.steps.specs.Search.{search as searched}
 use Rattle.steps.proofs.ShapeStart.{shape-root}
-use Rattle.search.specs.Values.{envOf}
-use Rattle.search.specs.Tables.{clauses, sequents}
+use Rattle.rows.specs.Values.{envOf}
+use Rattle.rows.specs.Rows.{clauses, sequents, clauseWords}
+use Rattle.search.specs.Values.{Handed}
 use Rattle.search.proofs.Branching.{search-empty}
 use Rattle.search.proofs.run.run.Statement.{statement}
 use Rattle.search.proofs.run.run.Tie as tie
@@ -27,7 +28,7 @@ all-undecided e =
     ap ones (ap (λ (x : ℕ). firstOf (e .n) - x) (and-zero-r (firstOf (e .n))) ∙ sub-zero (firstOf (e .n))) ∙ ones-firstOf (e .n)
 
 -- the table of the starting point is long enough
-begins : (c : tie.Start) → 2 * c .args .m ≤ length (c .args .t .now)
+begins : (c : tie.Start) → clauseWords (c .args .m) ≤ length (c .args .t .now)
 begins c = omega (arith, c .pre .capacity, c .pre .clauses)
 
 holds-empty-requires : tie.Need-holds-empty-requires
@@ -47,11 +48,11 @@ returns : tie.Need-returns
 unfolding sequents
 returns c =
     let x = c .before .before .before .before .before .before .before .before .before .args in
-    c .before .before .finish .ensures (x .t .now) (x .m)
-    ∙
-    ap
-    (finish (x .e .vars) (x .m))
+    let f = c .before .before .finish in
+    subst
+    (λ (s : Side). Handed (x .t .now) (f .last .0) (x .m) (f .result) (finish (x .e .vars) (x .m) s))
     (search-empty (envOf (x .e)) (x .e .vars) noDecisions 0 (start (clauses (x .t .now) (x .m))) (sym (c .before .before .before .before .before .holds-empty .ensures) ∙ c .before .before .before .before .if1 .taken))
+    (f .ensures (x .t .now))
 
 branch-requires : tie.Need-branch-requires
 unfolding sequents
@@ -62,7 +63,7 @@ branch-requires c κs =
       vars = p .vars;
       capacity = p .capacity;
       clauses = p .clauses;
-      decisions = search needs;
+      branchings = search needs;
       none-empty = sym (c .before .before .before .holds-empty .ensures) ∙ c .before .before .if1 .left;
       room = p .room;
       shape = shape-root (envOf (start .args .e)) (clauses (start .args .t .now) (start .args .m)) (p .proper);
@@ -86,11 +87,11 @@ returns-2 c =
     let b = c .before .before .before .before .before .before .before .before in
     let x = b .before .before .before .before .before .before .before .before .args in
     let t = clauses (x .t .now) (x .m) in
-    c .before .before .finish2 .ensures (b .branch .last .0) (x .m)
-    ∙
-    ap
-    (finish (x .e .vars) (x .m))
+    let f = c .before .before .finish2 in
+    subst
+    (λ (s : Side). Handed (b .branch .last .0) (f .last .0) (x .m) (f .result) (finish (x .e .vars) (x .m) s))
     (b .branch .ensures ∙ ap (λ (k : ℕ). searched (envOf (x .e)) k noDecisions 0 (start t)) (all-undecided (envOf (x .e))))
+    (f .ensures (b .branch .last .0))
 
 pub run-spec : {M : Type 1} → statement M
 run-spec =

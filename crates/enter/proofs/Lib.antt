@@ -1,0 +1,2 @@
+-- Laws that the proofs of `enter` and `swept` share.
+pub mod Turns

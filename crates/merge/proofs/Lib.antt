@@ -1,0 +1,2 @@
+-- Laws that the proofs of step 7 share.
+pub mod Joined

@@ -1,0 +1,134 @@
+-- `merge::learn` meets its contract. The look-up is the definition's; where it finds nothing, the test of the count against the capacity is the
+-- definition's on the length of the table, and the two words stored after the last clause are the clause that the definition adds (`add-at-end`).
+-- Assumes nothing.
+use mathlib.Core.Path.{_≡_, ap, sym, _∙_}
+use mathlib.Core.Bool.{true, false}
+use mathlib.Core.List.{List}
+use mathlib.Core.Option.{Option, none}
+use Prim.Native.Nat.{ℕ, _+_, _*_, _≤_, _<_}
+use native.Mathlib.Omega.{arith}
+use lib.Dec.{ltb}
+use lib.ListN.{length}
+use borrow.Author.Needs.{needs}
+use borrow.Author.Tests.{le-ltb, lt-ltb}
+use Rattle.steps.specs.Lists.{find}
+use Rattle.steps.specs.Clause.{Clause}
+use Rattle.steps.specs.State.{added}
+use Rattle.steps.specs.Merge.{same, settle, learn}
+use Rattle.rows.specs.Values.{clauseOf, assignmentOf, envOf, foundOf}
+use Rattle.rows.specs.Rows.{clauses, stateOf, clauseWords}
+use Rattle.words.proofs.Truth.{when-true, when-false}
+use Rattle.rows.proofs.Tables.{clauses-length, put-clause-at-end}
+use Rattle.merge.proofs.learn.Statement.{statement}
+use Rattle.merge.proofs.learn.Tie as tie
+
+-- what the code's look-up finds decides as the definition's does
+decided : (c : tie.After-look-up) (o : Option Clause)
+    → o ≡ foundOf (c .look-up .result)
+    → let x = c .before .before .before .before .args in
+    let s = stateOf (x .t .now) (x .rs .now) (x .s) in
+    learn (envOf (x .e)) (assignmentOf (x .a)) s (clauseOf (x .c)) o
+    ≡ learn (envOf (x .e)) (assignmentOf (x .a)) s (clauseOf (x .c)) (find (same (clauseOf (x .c))) (s .table))
+decided c o is =
+    let x = c .before .before .before .before .args in
+    ap (learn (envOf (x .e)) (assignmentOf (x .a)) (stateOf (x .t .now) (x .rs .now) (x .s)) (clauseOf (x .c))) (is ∙ c .look-up .ensures)
+
+-- there is room for a clause of number m below the capacity k
+next : (m k l : ℕ) → m < k → clauseWords k ≤ l → clauseWords (m + 1) ≤ l
+next m k l h f = omega arith
+
+look-up-requires : tie.Need-look-up-requires
+look-up-requires c κs = search needs
+
+enum-known-found : tie.Need-enum-known-found
+enum-known-found c = search needs
+
+settle-requires : tie.Need-settle-requires
+settle-requires c κs = search needs
+
+same-length : tie.Need-same-length
+same-length c = search needs
+
+same-length-2 : tie.Need-same-length-2
+same-length-2 c = search needs
+
+returns : tie.Need-returns
+returns c =
+    let told = c .before .before .before .before .before in
+    let x = told .before .before .before .before .before .before .args in
+    c .before .before .settle .ensures (x .t .now) ∙ decided (told .before .before) _ (ap foundOf (sym (told .found .given .1)))
+
+enum-told : tie.Need-enum-told
+enum-told c = search needs
+
+same-length-3 : tie.Need-same-length-3
+same-length-3 c = search needs
+
+returns-2 : tie.Need-returns-2
+returns-2 c =
+    let told = c .before .before in
+    let x = told .before .before .before .before .before .before .args in
+    let m = x .s .clauses in
+    let full : ltb (length (clauses (x .t .now) m)) (x .e .capacity) ≡ false =
+    ap (λ (k : ℕ). ltb k (x .e .capacity)) (clauses-length (x .t .now) m) ∙ le-ltb m (x .e .capacity) (c .if1 .taken) in
+    sym (when-false (ltb (length (clauses (x .t .now) m)) (x .e .capacity)) _ _ full)
+    ∙ decided (told .before .before) none (ap foundOf (sym (told .enum-told .given .1)))
+
+put-requires : tie.Need-put-requires
+put-requires c κs = search needs
+
+add-t20 : tie.Need-add-t20
+add-t20 c = search needs
+
+settle-requires-2 : tie.Need-settle-requires-2
+settle-requires-2 c κs = search needs
+
+same-length-4 : tie.Need-same-length-4
+same-length-4 c = search needs
+
+same-length-5 : tie.Need-same-length-5
+same-length-5 c = search needs
+
+returns-3 : tie.Need-returns-3
+returns-3 c =
+    let test = c .before .before .before .before .before .before .before .before in
+    let told = test .before .before in
+    let start = told .before .before .before .before .before .before in
+    let stored = c .before .before .before .before .before .before .put in
+    let x = start .args in
+    let m = x .s .clauses in
+    let s = stateOf (x .t .now) (x .rs .now) (x .s) in
+    let below : m < x .e .capacity = test .if1 .left in
+    let fits : clauseWords (x .e .capacity) ≤ length (x .t .now) = start .pre .capacity in
+    let room : ltb (length (s .table)) (x .e .capacity) ≡ true =
+    ap (λ (k : ℕ). ltb k (x .e .capacity)) (clauses-length (x .t .now) m) ∙ lt-ltb m (x .e .capacity) below in
+    let more : clauses (stored .last .0) (m + 1) ≡ added (clauseOf (x .c)) s .table =
+    ap (λ (l : List ℕ). clauses l (m + 1)) (stored .ensures) ∙ put-clause-at-end (x .t .now) m _ (next m (x .e .capacity) _ below fits) in
+    c .before .before .settle2 .ensures (stored .last .0)
+    ∙
+    (ap
+    (λ (l : List Clause). settle (envOf (x .e)) (assignmentOf (x .a)) (clauseOf (x .c)) (record { table = l; records = s .records; branchings = s .branchings }))
+    more
+    ∙
+    (sym (when-true (ltb (length (s .table)) (x .e .capacity)) _ _ room)
+    ∙ decided (told .before .before) none (ap foundOf (sym (told .enum-told .given .1)))))
+
+pub learn-spec : {M : Type 1} → statement M
+learn-spec =
+    tie.close
+    (tie.spec
+    look-up-requires
+    enum-known-found
+    settle-requires
+    same-length
+    same-length-2
+    returns
+    enum-told
+    same-length-3
+    returns-2
+    put-requires
+    add-t20
+    settle-requires-2
+    same-length-4
+    same-length-5
+    returns-3)
