@@ -1,0 +1,4 @@
+-- The proofs of the demands on a check.
+pub mod Checking
+pub mod Filling
+pub mod Demands
