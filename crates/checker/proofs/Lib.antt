@@ -1,8 +1,3 @@
--- Laws that the checker's proofs share, and the proofs of the demands: `Demands` has them all.
+-- Laws that the entry point shares with its parts.
 pub mod Written
-pub mod Deciding
-pub mod Checking
-pub mod Faults
-pub mod Refusals
-pub mod Filling
-pub mod Demands
+pub mod Working

@@ -7,9 +7,9 @@ use native.Mathlib.Numerals.{add-one}
 use native.Mathlib.Omega.{arith}
 use lib.ListN.{length, drop, set, length-append, length-drop, length-map}
 use lib.Seq.{drop-cons, set-at}
-use Rattle.search.specs.Tables.{from}
-use Rattle.search.proofs.Lists.{from-snoc, from-length}
-use Rattle.checker.specs.Filled.{written}
+use Rattle.rows.specs.Rows.{from}
+use Rattle.rows.proofs.Lists.{from-snoc, from-length}
+use Rattle.contract.specs.Filled.{written}
 
 -- a store at the next place
 written-more : (ws t : List ℕ) (x : ℕ) → length ws < length t → set (written ws t) (length ws) x ≡ written (ws ++ (x ∷ [])) t
@@ -20,7 +20,7 @@ written-more ws t x h =
     ∙ ap (λ (n : ℕ). (ws ++ (x ∷ [])) ++ drop n t) (sym (length-append ws (x ∷ []) ∙ add-one (length ws)))
 
 -- the length stays
-pub written-length : (ws t : List ℕ) → length ws ≤ length t → length (written ws t) ≡ length t
+written-length : (ws t : List ℕ) → length ws ≤ length t → length (written ws t) ≡ length t
 written-length ws t h = length-append ws (drop (length ws) t) ∙ omega (arith, length-drop (length ws) t)
 
 -- the words of i elements, from the one at m on

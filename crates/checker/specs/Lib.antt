@@ -1,6 +1,2 @@
--- What a check of a book and an order gives, and the demands on it. `Check` is the definition, `Demands` the page to read.
-pub mod Check
-pub mod Filled
+-- The work tables of a check: what its parts ask of them, and what they leave there.
 pub mod Work
-pub mod Words
-pub mod Demands

@@ -1,43 +1,64 @@
--- The work tables of a check: what deciding asks of them, and what it leaves there.
+-- The work tables of a check: what its parts ask of them, and what they leave there.
 use mathlib.Core.Path.{_≡_}
+use mathlib.Core.Bool.{true, false}
 use mathlib.Core.List.{List}
-use Prim.Native.Nat.{ℕ, _+_, _*_, _≤_}
+use Prim.Native.Nat.{ℕ, _+_, _≤_}
 use lib.ListN.{length}
-use Rattle.steps.specs.Clause.{Clause}
-use Rattle.steps.specs.Run.{Assumptions, Outcome, given, run}
-use Rattle.formula.specs.Limits.{maxVars, maxClauses, maxDerived}
-use Rattle.formula.specs.Order.{orderFault}
-use Rattle.formula.specs.Reading.{clausesIn, WellFormed}
-use Rattle.formula.specs.declared.Formula.{Formula}
-use Rattle.search.specs.Values.{endingOf}
-use Rattle.search.specs.Tables.{from, clauseAt, sequents}
+use Rattle.steps.specs.Clause.{Clause, DSequent}
+use Rattle.steps.specs.Run.{Assumptions, units, given, run}
+use Rattle.steps.specs.Shape.{Input}
+use Rattle.answer.specs.declared.Answer.{Answer}
+use Rattle.answer.specs.declared.Tally.{Tally}
+use Rattle.book.specs.Limits.{maxVars, maxClauses, maxDerived}
+use Rattle.book.specs.Reading.{WellFormed}
+use Rattle.book.specs.declared.Book.{Book}
+use Rattle.rows.specs.Rows.{clauseWords, clauses, sequentWords}
+use Rattle.search.specs.Values.{Handed}
+use Rattle.contract.specs.Check.{Lengths, tablesFault, Result, Result.refused, Result.ran}
+use Rattle.contract.specs.Filled.{Tables, lengths, answerOf, filled}
 use Rattle.checker.specs.declared.decide.Done.{Done}
+use Rattle.checker.specs.declared.tables.Column.{Column}
+use Rattle.checker.specs.declared.tables.Column.the-variants.{Decided, Trues, Redundant}
 
--- the clauses of the book
-abbrev pub bookOf : List ℕ → Formula → List Clause
-bookOf bytes f = clausesIn (f .clauses) bytes
+-- one word of a D-sequent
+abbrev pub columnOf : Column → DSequent → ℕ
+columnOf Decided d = d .decisions .decided
+columnOf Trues d = d .decisions .trues
+columnOf Redundant d = d .redundant
 
--- a book that was read and an order that was accepted, with room in the work tables for the largest run
-pub record Workable (bytes : List ℕ) (f : Formula) (o : Assumptions) (places : ℕ) (t rs : List ℕ) : Type 0 where
-  pub bytes-are : length bytes ≡ 3 + 16 * f .clauses
-  pub count-is : length (bookOf bytes f) ≡ f .clauses
-  pub well-formed : WellFormed (f .vars) (bookOf bytes f)
-  pub accepted : orderFault (f .vars) o ≡ 0
+-- the result for a book that was admitted: 9, or the run
+abbrev pub resultOf : ℕ → List Clause → Assumptions → ℕ → Lengths → Result
+resultOf n cs o allowance l = elim (tablesFault l) [ true ↦ refused 9 | false ↦ ran (run n cs o allowance (l .pos)) ]
+
+-- a book that was admitted with its order, its clauses in a work table with room for the largest run
+pub record Workable (b : Book) (o : Assumptions) (t : List ℕ) : Type 0 where
+  pub well-formed : WellFormed (b .vars) (clauses t (b .clauses))
+  pub input : Input (b .vars) (clauses t (b .clauses)) o
+  pub order-few : length (units o) ≤ b .vars
+  pub room : clauseWords (maxClauses + maxVars + maxDerived) ≤ length t
+
+-- the answer and the tables of that result
+pub record Promised (n : ℕ) (cs : List Clause) (o : Assumptions) (allowance : ℕ) (before : Tables) (r : Answer) (after : Tables) : Type 0 where
+  pub answer : r ≡ answerOf (resultOf n cs o allowance (lengths before))
+  pub tables : after ≡ filled (resultOf n cs o allowance (lengths before)) before
+
+-- such a book, with room for so many places and for a D-sequent for each variable
+pub record Runnable (b : Book) (o : Assumptions) (places : ℕ) (t rs : List ℕ) : Type 0 where
+  pub workable : Workable b o t
   pub places-few : places ≤ maxDerived
-  pub table-room : 2 * (maxClauses + maxVars + maxDerived) ≤ length t
-  pub records-room : 3 * maxVars ≤ length rs
+  pub list-room : sequentWords maxVars ≤ length rs
 
--- the outcome that the work tables hold: the derived clauses stand after book and order
-abbrev pub outcomeIn : List ℕ → List ℕ → Done → Outcome
-outcomeIn t rs d =
-    record {
-      ending = endingOf (d .ending);
-      decisions = d .tally .decisions;
-      derived = from (clauseAt t) (d .given) (d .tally .derived);
-      records = sequents rs (d .tally .records);
-    }
+-- the work tables hold the outcome of the run, the derived clauses after book and order
+pub record HasRun (n : ℕ) (cs : List Clause) (o : Assumptions) (allowance places : ℕ) (d : Done) (t rs : List ℕ) : Type 0 where
+  pub handed : Handed t rs (d .given) (d .answer) (run n cs o allowance places)
+  pub given-is : d .given ≡ length (given cs o)
 
--- the work tables hold the outcome of the run
-pub record Decided (bytes : List ℕ) (f : Formula) (o : Assumptions) (budget places : ℕ) (d : Done) (t rs : List ℕ) : Type 0 where
-  pub outcome : outcomeIn t rs d ≡ run (f .vars) (bookOf bytes f) o budget places
-  pub given-is : d .given ≡ length (given (bookOf bytes f) o)
+-- the counted places are there, in the work tables and in the lent ones
+pub record Fitting (t rs : List ℕ) (m : ℕ) (c : Tally) (l : Tables) : Type 0 where
+  pub table : clauseWords (m + c .derived) ≤ length t
+  pub list : sequentWords (c .records) ≤ length rs
+  pub pos : c .derived ≤ length (l .pos)
+  pub neg : c .derived ≤ length (l .neg)
+  pub decided : c .records ≤ length (l .decided)
+  pub trues : c .records ≤ length (l .trues)
+  pub redundant : c .records ≤ length (l .redundant)

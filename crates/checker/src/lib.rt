@@ -1,83 +1,80 @@
 // The entry point: book bytes, an order, an allowance and lent tables in; a verdict, a refusal or a stop out, with the tables filled.
 ghost use mathlib.Core.Path.{_≡_};
-ghost use lib.ListN.{length};
-ghost use Rattle.checker.specs.Filled.{Checked, refusalOf};
-use formula::Formula;
-use tables::Word;
+ghost use Rattle.rows.specs.Rows.{clauses};
+ghost use Rattle.book.specs.Values.{assumptionsOf};
+ghost use Rattle.contract.specs.Filled.{lent, Checked};
+ghost use Rattle.checker.specs.Work.{Workable, Promised};
+use answer::Answer;
+use book::Assumptions;
+use book::Book;
+use book::Reading;
+use rows::records;
+use rows::table;
 
-pub mod decide;
-pub mod tables;
-
-// Document 01: branchings, derived rules, records.
-pub struct Tally {
-    pub decisions: u32,
-    pub derived: usize,
-    pub records: usize,
-}
-
-// A verdict, a refusal by its number, or a stop by its number.
-pub enum Answer {
-    Can(Tally),
-    Cannot(Tally),
-    Refused(u32),
-    Stopped(u32, Tally),
-}
+mod decide;
+mod tables;
 
 // Checks the book and the order. The derived rules go into the first places of `pos` and `neg`, whose length is the places; the records into
-// those of `on`, `trues` and `redundant`.
+// those of `decided`, `trues` and `redundant`.
 pub fn check(
     book: &[u8],
-    wanted: u64,
-    unwanted: u64,
+    o: Assumptions,
     allowance: u32,
     pos: &mut [u64],
     neg: &mut [u64],
-    on: &mut [u64],
+    decided: &mut [u64],
     trues: &mut [u64],
     redundant: &mut [u64],
 ) -> Answer
-    ensures { λ r. ⌜ Checked (now (book .entry)) (record { pos = wanted; neg = unwanted }) allowance (record { pos = now (pos .entry); neg = now (neg .entry); on = now (on .entry); trues = now (trues .entry); redundant = now (redundant .entry) }) r (record { pos = now (pos .exit); neg = now (neg .exit); on = now (on .exit); trues = now (trues .exit); redundant = now (redundant .exit) }) ⌝ }
+    ensures { λ r. ⌜ Checked (now (book .entry)) (assumptionsOf o) allowance (lent (now (pos .entry)) (now (neg .entry)) (now (decided .entry)) (now (trues .entry)) (now (redundant .entry))) r (lent (now (pos .exit)) (now (neg .exit)) (now (decided .exit)) (now (trues .exit)) (now (redundant .exit))) ⌝ }
 {
-    let read = Formula::from_bytes(book);
-    let formula::Answer::Book(f) = read else {
-        return refused(read);
-    };
-    let fault = f.order_fault(wanted, unwanted);
-    if fault != 0 {
-        return Answer::Refused(fault);
+    let mut t = [0u64; table::WORDS
+        * (Book::MAX_CLAUSES + (Book::MAX_VARS as usize) + Book::MAX_DERIVED)];
+    let read = Book::admit(book, o, &mut t);
+    match read {
+        Reading::Refused(k) => Answer::Refused(k),
+        Reading::Book(b) => run_book(b, o, allowance, &mut t, pos, neg, decided, trues, redundant),
     }
-    if tables::fault(pos.len(), neg.len(), on.len(), trues.len(), redundant.len()) {
-        return Answer::Refused(9);
-    }
-    let mut t = [0u64; 2
-        * (Formula::MAX_CLAUSES + (Formula::MAX_VARS as usize) + Formula::MAX_DERIVED)];
-    let mut rs = [0u64; 3 * (Formula::MAX_VARS as usize)];
-    let done = decide::decide(
-        book,
-        f,
-        wanted,
-        unwanted,
-        allowance,
-        pos.len(),
-        &mut t,
-        &mut rs,
-    );
-    let k = done.tally.derived;
-    let r = done.tally.records;
-    tables::copy_clauses(&t, done.given, k, true, pos);
-    tables::copy_clauses(&t, done.given, k, false, neg);
-    tables::copy_records(&rs, r, Word::Decided, on);
-    tables::copy_records(&rs, r, Word::Trues, trues);
-    tables::copy_records(&rs, r, Word::Redundant, redundant);
-    decide::answer(done)
 }
 
-// What reading refused.
-pub fn refused(read: formula::Answer) -> Answer
-    ensures { λ r. ⌜ r ≡ refusalOf read ⌝ }
+// Runs a book that was admitted with its order, and whose clauses the work table holds, unless the lent tables are refused.
+fn run_book(
+    b: Book,
+    o: Assumptions,
+    allowance: u32,
+    t: &mut [u64],
+    pos: &mut [u64],
+    neg: &mut [u64],
+    decided: &mut [u64],
+    trues: &mut [u64],
+    redundant: &mut [u64],
+) -> Answer
+    requires { ⌜ Workable b (assumptionsOf o) (now t) ⌝ }
+    ensures { λ r. ⌜ Promised (b .vars) (clauses (now (t .entry)) (b .clauses)) (assumptionsOf o) allowance (lent (now (pos .entry)) (now (neg .entry)) (now (decided .entry)) (now (trues .entry)) (now (redundant .entry))) r (lent (now (pos .exit)) (now (neg .exit)) (now (decided .exit)) (now (trues .exit)) (now (redundant .exit))) ⌝ }
 {
-    match read {
-        formula::Answer::Refused(k) => Answer::Refused(k),
-        formula::Answer::Book(_) => Answer::Refused(0),
+    if tables::fault(
+        pos.len(),
+        neg.len(),
+        decided.len(),
+        trues.len(),
+        redundant.len(),
+    ) {
+        return Answer::Refused(9);
     }
+    let mut rs = [0u64; records::WORDS * (Book::MAX_VARS as usize)];
+    let done = decide::decide(b, o, allowance, pos.len(), t, &mut rs);
+    let found = done.answer;
+    let tally = answer::tally_of(found);
+    tables::hand_out(
+        t,
+        &rs,
+        done.given,
+        tally,
+        pos,
+        neg,
+        decided,
+        trues,
+        redundant,
+    );
+    found
 }

@@ -7,8 +7,8 @@ use native.Mathlib.Omega.{arith}
 use borrow.Author.Needs.{needs}
 use lib.ListN.{length}
 use Rattle.steps.specs.Clause.{literals}
-use Rattle.search.specs.Tables.{from, clauseAt}
-use Rattle.checker.specs.Filled.{written}
+use Rattle.rows.specs.Rows.{from, clauseAt}
+use Rattle.contract.specs.Filled.{written}
 use Rattle.checker.proofs.Written.{copied, copied-length}
 use Rattle.checker.proofs.tables.copy_clauses.Statement.{statement}
 use Rattle.checker.proofs.tables.copy_clauses.Tie as tie

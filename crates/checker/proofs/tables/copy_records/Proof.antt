@@ -7,15 +7,15 @@ use native.Mathlib.Nat.{zero-add}
 use native.Mathlib.Omega.{arith}
 use borrow.Author.Needs.{needs}
 use lib.ListN.{length}
-use Rattle.search.specs.Tables.{from, sequentAt, sequents}
-use Rattle.checker.specs.Filled.{written}
-use Rattle.checker.specs.Words.{wordOf}
+use Rattle.rows.specs.Rows.{from, sequentAt, sequents}
+use Rattle.contract.specs.Filled.{written}
+use Rattle.checker.specs.Work.{columnOf}
 use Rattle.checker.proofs.Written.{copied, copied-length}
 use Rattle.checker.proofs.tables.copy_records.Statement.{statement}
 use Rattle.checker.proofs.tables.copy_records.Tie as tie
 
 abbrev Inv-loop : tie.InvT-loop
-Inv-loop rs k which out₀ i₀ out i = (i ≤ k) × (k ≤ length out₀) × (out ≡ written (map (wordOf which) (from (sequentAt rs) 0 i)) out₀)
+Inv-loop rs k which out₀ i₀ out i = (i ≤ k) × (k ≤ length out₀) × (out ≡ written (map (columnOf which) (from (sequentAt rs) 0 i)) out₀)
 
 abbrev μ-loop : tie.MeasureT-loop
 μ-loop rs k which out₀ i₀ out i = k - i
@@ -26,15 +26,15 @@ loop-holds c = (search needs, c .before .before .pre .1, refl)
 sequent-at-requires : tie.Need-sequent-at-requires Inv-loop μ-loop
 sequent-at-requires c κs = omega (arith, c .loop-test .taken, c .before .before .before .before .pre .0)
 
-word-of-requires : tie.Need-word-of-requires Inv-loop μ-loop
-word-of-requires c κs = search needs
+column-of-requires : tie.Need-column-of-requires Inv-loop μ-loop
+column-of-requires c κs = search needs
 
 -- the table is as long as before
 out-length : (c : tie.At-loop Inv-loop μ-loop) → length (c .loop .out) ≡ length (c .before .before .before .args .out .now)
 out-length c =
     let a = c .before .before .before .args in
     let inv = c .loop .inv in
-    copied-length (wordOf (a .which)) (sequentAt (a .rs .now)) 0 (a .out .now) (c .loop .i) (c .loop .out) (omega (arith, inv .0, inv .1)) (inv .2)
+    copied-length (columnOf (a .which)) (sequentAt (a .rs .now)) 0 (a .out .now) (c .loop .i) (c .loop .out) (omega (arith, inv .0, inv .1)) (inv .2)
 
 mul-out : tie.Need-mul-out Inv-loop μ-loop
 mul-out c = omega (arith, c .before .before .loop-test .taken, c .before .before .before .loop .inv .1, c .before .before .before .before .before .before .good)
@@ -57,16 +57,16 @@ loop-again c =
       omega (arith, less),
       inv .1,
       copied
-          (wordOf (a .which))
+          (columnOf (a .which))
           (sequentAt (a .rs .now))
           0
           (a .out .now)
           i
-          (c .word-of .result)
+          (c .column-of .result)
           (c .before .before .before .loop .out)
           (omega (arith, less, inv .1))
           (inv .2)
-          (c .word-of .ensures ∙ ap (wordOf (a .which)) (c .before .sequent-at .ensures ∙ ap (sequentAt (a .rs .now)) (sym (zero-add i)))),
+          (c .column-of .ensures ∙ ap (columnOf (a .which)) (c .before .sequent-at .ensures ∙ ap (sequentAt (a .rs .now)) (sym (zero-add i)))),
     )
 
 same-length : tie.Need-same-length Inv-loop μ-loop
@@ -78,7 +78,7 @@ returns c =
     let a = c .before .before .before .before .args in
     let inv = c .before .loop .inv in
     let all : c .before .loop .i ≡ a .k = omega (arith, inv .0, c .loop-test .left) in
-    inv .2 ∙ ap (λ n. written (map (wordOf (a .which)) (from (sequentAt (a .rs .now)) 0 n)) (a .out .now)) all
+    inv .2 ∙ ap (λ n. written (map (columnOf (a .which)) (from (sequentAt (a .rs .now)) 0 n)) (a .out .now)) all
 
 pub copy-records-spec : {M : Type 1} → statement M
 copy-records-spec =
@@ -88,7 +88,7 @@ copy-records-spec =
     μ-loop
     loop-holds
     sequent-at-requires
-    word-of-requires
+    column-of-requires
     mul-out
     slice-write-out
     add-i

@@ -1,7 +1,7 @@
 -- `checker::tables::fault` meets its contract: the tests are those of the definition, in its order. Assumes nothing.
 use borrow.Author.Tests.{eq-eqb, ne-eqb, lt-ltb, le-ltb}
-use Rattle.formula.specs.Limits.{maxDerived, minRecords}
-use Rattle.checker.specs.Check.{tablesFault}
+use Rattle.book.specs.Limits.{maxDerived, minRecords}
+use Rattle.contract.specs.Check.{tablesFault}
 use Rattle.checker.proofs.tables.fault.Statement.{statement}
 use Rattle.checker.proofs.tables.fault.Tie as tie
 
@@ -22,7 +22,7 @@ returns-3 c =
     rw (
       eq-eqb (a .pos) (a .neg) (c .before .before .if1 .left),
       le-ltb maxDerived (a .pos) (c .before .if2 .left),
-      lt-ltb (a .on) minRecords (c .if3 .taken),
+      lt-ltb (a .decided) minRecords (c .if3 .taken),
     )
 
 returns-4 : tie.Need-returns-4
@@ -32,7 +32,7 @@ returns-4 c =
     rw (
       eq-eqb (a .pos) (a .neg) (c .before .before .before .if1 .left),
       le-ltb maxDerived (a .pos) (c .before .before .if2 .left),
-      le-ltb (a .on) minRecords (c .before .if3 .left),
+      le-ltb (a .decided) minRecords (c .before .if3 .left),
       lt-ltb (a .trues) minRecords (c .if4 .taken),
     )
 
@@ -43,7 +43,7 @@ returns-5 c =
     rw (
       eq-eqb (a .pos) (a .neg) (c .before .before .before .if1 .left),
       le-ltb maxDerived (a .pos) (c .before .before .if2 .left),
-      le-ltb (a .on) minRecords (c .before .if3 .left),
+      le-ltb (a .decided) minRecords (c .before .if3 .left),
       le-ltb (a .trues) minRecords (c .if4 .left),
     )
 
