@@ -36,11 +36,11 @@ module _ (k i : ℕ) (h : i < k) where
 
   -- the lines of the first k records from place i on
   pub records-more :
-      (os ts rs : List ℕ) → k ≤ length os → k ≤ length ts → k ≤ length rs
-      → recordLines (drop i (take k os)) (drop i (take k ts)) (drop i (take k rs))
-      ≡ recordLine (getD os i 0) (getD ts i 0) (getD rs i 0) ++ recordLines (drop (i + 1) (take k os)) (drop (i + 1) (take k ts)) (drop (i + 1) (take k rs))
+      (ds ts rs : List ℕ) → k ≤ length ds → k ≤ length ts → k ≤ length rs
+      → recordLines (drop i (take k ds)) (drop i (take k ts)) (drop i (take k rs))
+      ≡ recordLine (getD ds i 0) (getD ts i 0) (getD rs i 0) ++ recordLines (drop (i + 1) (take k ds)) (drop (i + 1) (take k ts)) (drop (i + 1) (take k rs))
   unfolding recordLines
-  records-more os ts rs fo ft fr = rw (first-more k os i h fo, first-more k ts i h ft, first-more k rs i h fr)
+  records-more ds ts rs fd ft fr = rw (first-more k ds i h fd, first-more k ts i h ft, first-more k rs i h fr)
 
 module _ (k i : ℕ) (h : k ≤ i) where
   -- from place k on there are none
@@ -48,6 +48,6 @@ module _ (k i : ℕ) (h : k ≤ i) where
   unfolding clauseLines
   clauses-none ps ns = ap (λ (l : List ℕ). clauseLines l ns) (first-none k ps i h)
 
-  pub records-none : (os ts rs : List ℕ) → recordLines (drop i (take k os)) ts rs ≡ []
+  pub records-none : (ds ts rs : List ℕ) → recordLines (drop i (take k ds)) ts rs ≡ []
   unfolding recordLines
-  records-none os ts rs = ap (λ (l : List ℕ). recordLines l ts rs) (first-none k os i h)
+  records-none ds ts rs = ap (λ (l : List ℕ). recordLines l ts rs) (first-none k ds i h)

@@ -1,7 +1,7 @@
 -- Laws of writing a text into a buffer. A text of two parts is written by writing the first and, from the place after it, the second:
 -- the buffer then starts with what stood before the place and the first part, which the second leaves alone.
 -- `Left` says what is left to be written of a whole text, so that a function that writes part after part, in a row or in a loop, goes by its laws alone.
-use mathlib.Core.Path.{_≡_, refl, sym, ap, _∙_}
+use mathlib.Core.Path.{_≡_, refl, sym, ap, _∙_, subst}
 use mathlib.Core.List.{List, [], _∷_, _++_, append-assoc, append-nil}
 use Prim.Native.Nat.{ℕ, _+_, _≤_, _<_}
 use native.Mathlib.Nat.{add-zero, zero-add, add-assoc}
@@ -88,6 +88,10 @@ left-last {rest = rest} left w = left-none refl (left-next [] (sym (append-nil r
 pub printed : {text before after : List ℕ} {r : ℕ} → Wrote before 0 text after r → Printed text before after r
 unfolding placed
 printed {text} w = record { bytes = rw zero-add at (w .bytes); size = w .end ∙ zero-add (length text) }
+
+-- a text that was printed, by another name
+pub printed-as : {text same before after : List ℕ} {r : ℕ} → text ≡ same → Printed text before after r → Printed same before after r
+printed-as {before = before} {after = after} {r = r} e p = subst (λ (t : List ℕ). Printed t before after r) e p
 
 -- a list from place i on is its element there and the list from the next place on
 pub drop-more : (l : List ℕ) (i : ℕ) → i < length l → drop i l ≡ getD l i 0 ∷ drop (i + 1) l

@@ -3,10 +3,10 @@ ghost use Prim.Native.Nat.{_≤_};
 ghost use lib.ListN.{length, take};
 ghost use Rattle.report.specs.Text.{wordText, line, clauseLine, recordLine, clauseLines, recordLines};
 ghost use Rattle.report.specs.Write.{Room, Wrote};
-use crate::Word;
 use crate::put::put_byte;
 use crate::put::put_number;
 use crate::put::put_text;
+use answer::Answer;
 
 // A line: a word and numbers.
 fn put_line(word: &[u8], numbers: &[u64], out: &mut [u8], at: usize) -> usize
@@ -23,16 +23,16 @@ fn put_line(word: &[u8], numbers: &[u64], out: &mut [u8], at: usize) -> usize
     put_byte(10, out, next)
 }
 
-// The first line: its word and its numbers.
-pub fn put_summary(word: Word, numbers: &[u64], out: &mut [u8], at: usize) -> usize
-    requires { ⌜ Room (now out) at (line (wordText word) (now numbers)) ⌝ }
-    ensures { λ r. ⌜ Wrote (now (out .entry)) at (line (wordText word) (now (numbers .entry))) (now (out .exit)) r ⌝ }
+// The first line: the word of the answer, and its numbers.
+pub fn put_first(a: Answer, numbers: &[u64], out: &mut [u8], at: usize) -> usize
+    requires { ⌜ Room (now out) at (line (wordText a) (now numbers)) ⌝ }
+    ensures { λ r. ⌜ Wrote (now (out .entry)) at (line (wordText a) (now (numbers .entry))) (now (out .exit)) r ⌝ }
 {
-    match word {
-        Word::Can => put_line(b"can", numbers, out, at),
-        Word::Cannot => put_line(b"cannot", numbers, out, at),
-        Word::Refused => put_line(b"refused", numbers, out, at),
-        Word::Stopped => put_line(b"stopped", numbers, out, at),
+    match a {
+        Answer::Can(_) => put_line(b"can", numbers, out, at),
+        Answer::Cannot(_) => put_line(b"cannot", numbers, out, at),
+        Answer::Refused(_) => put_line(b"refused", numbers, out, at),
+        Answer::Stopped(_, _) => put_line(b"stopped", numbers, out, at),
     }
 }
 
@@ -46,11 +46,11 @@ fn put_clause(pos: u64, neg: u64, out: &mut [u8], at: usize) -> usize
 }
 
 // The line of a record.
-fn put_record(on: u64, trues: u64, redundant: u64, out: &mut [u8], at: usize) -> usize
-    requires { ⌜ Room (now out) at (recordLine on trues redundant) ⌝ }
-    ensures { λ r. ⌜ Wrote (now (out .entry)) at (recordLine on trues redundant) (now (out .exit)) r ⌝ }
+fn put_record(decided: u64, trues: u64, redundant: u64, out: &mut [u8], at: usize) -> usize
+    requires { ⌜ Room (now out) at (recordLine decided trues redundant) ⌝ }
+    ensures { λ r. ⌜ Wrote (now (out .entry)) at (recordLine decided trues redundant) (now (out .exit)) r ⌝ }
 {
-    let numbers = [on, trues, redundant];
+    let numbers = [decided, trues, redundant];
     put_line(b"r", &numbers, out, at)
 }
 
@@ -71,21 +71,21 @@ pub fn put_clauses(pos: &[u64], neg: &[u64], count: usize, out: &mut [u8], at: u
 
 // The lines of the first records of three tables of words.
 pub fn put_records(
-    on: &[u64],
+    decided: &[u64],
     trues: &[u64],
     redundant: &[u64],
     count: usize,
     out: &mut [u8],
     at: usize,
 ) -> usize
-    requires { ⌜ (count ≤ length (now on)) × (count ≤ length (now trues)) × (count ≤ length (now redundant)) ⌝ }
-    requires { ⌜ Room (now out) at (recordLines (take count (now on)) (take count (now trues)) (take count (now redundant))) ⌝ }
-    ensures { λ r. ⌜ Wrote (now (out .entry)) at (recordLines (take count (now (on .entry))) (take count (now (trues .entry))) (take count (now (redundant .entry)))) (now (out .exit)) r ⌝ }
+    requires { ⌜ (count ≤ length (now decided)) × (count ≤ length (now trues)) × (count ≤ length (now redundant)) ⌝ }
+    requires { ⌜ Room (now out) at (recordLines (take count (now decided)) (take count (now trues)) (take count (now redundant))) ⌝ }
+    ensures { λ r. ⌜ Wrote (now (out .entry)) at (recordLines (take count (now (decided .entry))) (take count (now (trues .entry))) (take count (now (redundant .entry)))) (now (out .exit)) r ⌝ }
 {
     let mut next = at;
     let mut i: usize = 0;
     while i < count {
-        next = put_record(on[i], trues[i], redundant[i], out, next);
+        next = put_record(decided[i], trues[i], redundant[i], out, next);
         i += 1;
     }
     next

@@ -38,8 +38,8 @@ slice-aggregate-respond-2 c = search needs
 respond-requires : tie.Need-respond-requires
 respond-requires c κs = search needs
 
-array-share-prefix-reply : tie.Need-array-share-prefix-reply
-array-share-prefix-reply c = within (c .before .respond .ensures)
+array-share-prefix-text : tie.Need-array-share-prefix-text
+array-share-prefix-text c = within (c .before .respond .ensures)
 
 slice-aggregate-write-all : tie.Need-slice-aggregate-write-all
 slice-aggregate-write-all c = sym (length-take-le (c .before .before .respond .result) (c .before .before .respond .last .1 .0) (within (c .before .before .respond .ensures)))
@@ -62,7 +62,7 @@ main-spec =
     slice-aggregate-respond
     slice-aggregate-respond-2
     respond-requires
-    array-share-prefix-reply
+    array-share-prefix-text
     slice-aggregate-write-all
     write-all-requires
     returns)

@@ -1,69 +1,92 @@
 -- `report::write_outcome` meets its contract. The text has room, since it is at most as long as the bound. Its three parts, the first line, the clauses' lines and the records'
--- lines, are written one after the other. Assumes nothing.
-use mathlib.Core.Path.{refl}
+-- lines, are written one after the other, with the number and the counts that the calls read off the answer. Assumes nothing.
+use mathlib.Core.Path.{_≡_, refl, ap, ap₂, subst⁻¹}
 use mathlib.Core.List.{List}
 use Prim.Native.Nat.{ℕ}
 use native.Mathlib.Omega.{arith}
 use lib.ListN.{take}
 use denote.Ref.{now}
-use Rattle.report.specs.Text.{outcomeText, clauseLines}
-use Rattle.report.proofs.Length.{none, more, words-of, text-at-most}
-use Rattle.report.proofs.Writing.{Left, left-all, left-room, left-next, left-last, printed}
+use Rattle.answer.specs.declared.Tally.{Tally}
+use Rattle.report.specs.Text.{Counted, outcomeText, clauseLines}
+use Rattle.report.proofs.Length.{none, more, words-of, textWith, text-at-most}
+use Rattle.report.proofs.Writing.{Left, left-all, left-room, left-next, left-last, printed, printed-as}
 use borrow.Author.Needs.{needs}
 use Rattle.report.proofs.write_outcome.Statement.{statement}
 use Rattle.report.proofs.write_outcome.Tie as tie
 
--- the text
+-- the function's arguments, and the counts and the number that it read off the answer
+abbrev start : tie.After-struct-known → tie.Start
+start c = c .before .before .before .before .before .before .before .before .before
+
+abbrev counts : tie.After-struct-known → Tally
+counts c = c .before .before .tally-of .result
+
+abbrev number : tie.After-struct-known → ℕ
+number c = c .before .number-of .result
+
+-- the text of these
 abbrev text : tie.After-struct-known → List ℕ
 text c =
-    let a = c .before .before .before .before .before .before .before .args in
-    outcomeText (a .s) (take (a .s .derived) (now (a .pos))) (take (a .s .derived) (now (a .neg))) (take (a .s .records) (now (a .on))) (take (a .s .records) (now (a .trues))) (take (a .s .records) (now (a .redundant)))
+    let a = start c .args in
+    textWith (a .a) (number c) (counts c) (now (a .pos)) (now (a .neg)) (now (a .decided)) (now (a .trues)) (now (a .redundant))
 
 -- the part of it that the clauses' lines are
 abbrev clauses : tie.After-struct-known → List ℕ
-clauses c =
-    let a = c .before .before .before .before .before .before .before .args in
-    clauseLines (take (a .s .derived) (now (a .pos))) (take (a .s .derived) (now (a .neg)))
+clauses c = clauseLines (take (counts c .derived) (now (start c .args .pos))) (take (counts c .derived) (now (start c .args .neg)))
 
--- at the start all of it is left: it has room
-start : (c : tie.After-struct-known) → Left (now (c .before .before .before .before .before .before .before .args .out)) 0 (text c) (now (c .before .before .before .before .before .before .before .args .out)) 0 (text c)
-start c =
-    let entry = c .before .before .before .before .before .before .before in
+-- the counts are those of the answer, so they are within the tables
+counted : (c : tie.After-struct-known) → let a = start c .args in Counted (counts c) (now (a .pos)) (now (a .neg)) (now (a .decided)) (now (a .trues)) (now (a .redundant))
+counted c =
+    let a = start c .args in
+    subst⁻¹ (λ (t : Tally). Counted t (now (a .pos)) (now (a .neg)) (now (a .decided)) (now (a .trues)) (now (a .redundant))) (c .before .before .tally-of .ensures) (start c .pre .0)
+
+-- at the start all of the text is left: it has room
+begun : (c : tie.After-struct-known) → Left (now (start c .args .out)) 0 (text c) (now (start c .args .out)) 0 (text c)
+begun c =
+    let entry = start c in
     let known = c .struct-known .given in
-    let short = text-at-most (entry .args .s)
-    (more (omega (arith, known .1 .0 .fits)) (more (omega (arith, known .1 .1 .0 .fits)) (more (known .1 .1 .1 .0 .fits) (more (known .1 .1 .1 .1 .0 .fits) none))))
-    (words-of (now (entry .args .pos)) (λ i. c .before .before .before .before .before .before .shared-slice-known .given i .fits))
-    (words-of (now (entry .args .neg)) (λ i. c .before .before .before .before .before .shared-slice-known2 .given i .fits))
-    (words-of (now (entry .args .on)) (λ i. c .before .before .before .before .shared-slice-known3 .given i .fits))
-    (words-of (now (entry .args .trues)) (λ i. c .before .before .before .shared-slice-known4 .given i .fits))
-    (words-of (now (entry .args .redundant)) (λ i. c .before .before .shared-slice-known5 .given i .fits)) in
-    left-all (record { fits = omega (arith, short, entry .pre) })
+    let slices = c .before .before .before .before in
+    let same = c .before .before .tally-of .ensures in
+    let short = text-at-most (entry .args .a) (number c) (counts c)
+    (more (search (needs, c .before .number-of .ok)) (more (omega (arith, known .0 .fits)) (more (known .1 .0 .fits) (more (known .1 .1 .0 .fits) none))))
+    (words-of (now (entry .args .pos)) (λ i. slices .before .before .before .before .shared-slice-known .given i .fits))
+    (words-of (now (entry .args .neg)) (λ i. slices .before .before .before .shared-slice-known2 .given i .fits))
+    (words-of (now (entry .args .decided)) (λ i. slices .before .before .shared-slice-known3 .given i .fits))
+    (words-of (now (entry .args .trues)) (λ i. slices .before .shared-slice-known4 .given i .fits))
+    (words-of (now (entry .args .redundant)) (λ i. slices .shared-slice-known5 .given i .fits)) in
+    left-all (record { fits = omega (arith, short, entry .pre .1, ap (λ (t : Tally). t .derived) same, ap (λ (t : Tally). t .records) same) })
 
-cast-t14 : tie.Need-cast-t14
-cast-t14 c = search needs
+tally-of-requires : tie.Need-tally-of-requires
+tally-of-requires c κs = search needs
+
+number-of-requires : tie.Need-number-of-requires
+number-of-requires c κs = search needs
 
 cast-t15 : tie.Need-cast-t15
 cast-t15 c = search needs
 
-slice-aggregate-put-summary : tie.Need-slice-aggregate-put-summary
-slice-aggregate-put-summary c = search needs
+cast-t16 : tie.Need-cast-t16
+cast-t16 c = search needs
 
-put-summary-requires : tie.Need-put-summary-requires
-unfolding outcomeText
-put-summary-requires c κs = left-room _ refl (start (c .before .before .before))
+slice-aggregate-put-first : tie.Need-slice-aggregate-put-first
+slice-aggregate-put-first c = search needs
+
+put-first-requires : tie.Need-put-first-requires
+put-first-requires c κs = left-room _ refl (begun (c .before .before))
 
 put-clauses-requires : tie.Need-put-clauses-requires
-unfolding outcomeText
 put-clauses-requires c κs =
-    let begun = c .before .before .before .before .before .before .before in
-    (begun .before .before .before .before .before .before .before .pre .0, left-room _ refl (left-next _ refl (start begun) (c .before .before .before .put-summary .ensures)))
+    let wrote = c .before .before .before in
+    let known = wrote .before .before .before in
+    ((counted known .pos, counted known .neg), left-room _ refl (left-next _ refl (begun known) (wrote .put-first .ensures)))
 
 put-records-requires : tie.Need-put-records-requires
-unfolding outcomeText
 put-records-requires c κs =
-    let first = c .before .before .before .before .before .before .before in
-    let begun = first .before .before .before .before in
-    (begun .before .before .before .before .before .before .before .pre .1 .0, left-next {s = clauses begun} _ refl (left-next _ refl (start begun) (first .put-summary .ensures)) (c .before .before .before .put-clauses .ensures) .room)
+    let wrote = c .before .before .before in
+    let first = wrote .before .before .before .before in
+    let known = first .before .before .before in
+    let fit = counted known in
+    ((fit .decided, fit .trues, fit .redundant), left-next {s = clauses known} _ refl (left-next _ refl (begun known) (first .put-first .ensures)) (wrote .put-clauses .ensures) .room)
 
 same-length : tie.Need-same-length
 same-length c = search needs
@@ -71,19 +94,25 @@ same-length c = search needs
 returns : tie.Need-returns
 unfolding outcomeText
 returns c =
-    let second = c .before .before .before .before .before .before in
+    let last = c .before .before in
+    let second = last .before .before .before .before in
     let first = second .before .before .before .before in
-    let begun = first .before .before .before .before in
-    printed (left-last (left-next {s = clauses begun} _ refl (left-next _ refl (start begun) (first .put-summary .ensures)) (second .put-clauses .ensures)) (c .before .before .put-records .ensures))
+    let known = first .before .before .before in
+    let a = start known .args in
+    printed-as
+    (ap₂ (λ (n : ℕ) (t : Tally). textWith (a .a) n t (now (a .pos)) (now (a .neg)) (now (a .decided)) (now (a .trues)) (now (a .redundant))) (known .before .number-of .ensures) (known .before .before .tally-of .ensures))
+    (printed (left-last (left-next {s = clauses known} _ refl (left-next _ refl (begun known) (first .put-first .ensures)) (second .put-clauses .ensures)) (last .put-records .ensures)))
 
 pub write-outcome-spec : {M : Type 1} → statement M
 write-outcome-spec =
     tie.close
     (tie.spec
-    cast-t14
+    tally-of-requires
+    number-of-requires
     cast-t15
-    slice-aggregate-put-summary
-    put-summary-requires
+    cast-t16
+    slice-aggregate-put-first
+    put-first-requires
     put-clauses-requires
     put-records-requires
     same-length

@@ -11,12 +11,12 @@ use Rattle.report.proofs.lines.put_records.Statement.{statement}
 use Rattle.report.proofs.lines.put_records.Tie as tie
 
 abbrev Inv-loop : tie.InvT-loop
-Inv-loop on trues redundant count out₀ at next₀ i₀ out next i =
+Inv-loop decided trues redundant count out₀ at next₀ i₀ out next i =
     (i ≤ count)
-    × Left out₀ at (recordLines (take count on) (take count trues) (take count redundant)) out next (recordLines (drop i (take count on)) (drop i (take count trues)) (drop i (take count redundant)))
+    × Left out₀ at (recordLines (take count decided) (take count trues) (take count redundant)) out next (recordLines (drop i (take count decided)) (drop i (take count trues)) (drop i (take count redundant)))
 
 abbrev μ-loop : tie.MeasureT-loop
-μ-loop on trues redundant count out₀ at next₀ i₀ out next i = count - i
+μ-loop decided trues redundant count out₀ at next₀ i₀ out next i = count - i
 
 loop-holds : tie.Need-loop-holds Inv-loop μ-loop
 loop-holds c = (omega arith, left-all (c .before .before .before .before .pre .1))

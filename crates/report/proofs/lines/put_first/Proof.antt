@@ -1,8 +1,8 @@
--- `report::lines::put_summary` meets its contract: each arm knows its word, and the line of that word's text is written by `put_line`.
+-- `report::lines::put_first` meets its contract: each arm knows its answer, and the line of its word is written by `put_line`.
 -- Assumes nothing.
 use borrow.Author.Needs.{needs}
-use Rattle.report.proofs.lines.put_summary.Statement.{statement}
-use Rattle.report.proofs.lines.put_summary.Tie as tie
+use Rattle.report.proofs.lines.put_first.Statement.{statement}
+use Rattle.report.proofs.lines.put_first.Tie as tie
 
 enum-told : tie.Need-enum-told
 enum-told c = search needs
@@ -64,8 +64,8 @@ same-length-4 c = search needs
 returns-4 : tie.Need-returns-4
 returns-4 c = rw (c .before .before .before .before .before .enum-told4 .given .1) (c .before .before .put-line4 .ensures)
 
-pub put-summary-spec : {M : Type 1} → statement M
-put-summary-spec =
+pub put-first-spec : {M : Type 1} → statement M
+put-first-spec =
     tie.close
     (tie.spec
     enum-told

@@ -1,0 +1,26 @@
+-- The replies that are written out, by computation.
+use mathlib.Core.Path.{refl}
+use lib.Count.{ones, onesIn}
+use Rattle.words.specs.Words.{minus, meets, firstOf, lowest, membersUpTo, members}
+use Rattle.steps.specs.Clause.{vars, keepers, satisfied, falsified, names, undecidedIn, without}
+use Rattle.steps.specs.State.{undecided, live}
+use Rattle.steps.specs.Sweep.{allInactive, monotone, firstMonotone, sweep}
+use Rattle.steps.specs.Enter.{unit, swept, falsifiedNaming, enter}
+use Rattle.steps.specs.Merge.{same, resolvent, join, merge}
+use Rattle.steps.specs.Search.{step, search}
+use Rattle.steps.specs.Run.{units, finish, searched, run}
+use Rattle.book.specs.Bytes.{bytesOf, number, wordAt, wordsIn, pair, clausesIn, flat}
+use Rattle.book.specs.Refusals.{firstRow, above, ruleRows, bookRows, orderRows, admitRows}
+use Rattle.contract.specs.Check.{check, tablesFault}
+use Rattle.report.specs.Decimal.{decimal, decimalUpTo}
+use Rattle.report.specs.Text.{outcomeText, fields, clauseLines, recordLines}
+use Rattle.reply.specs.Reply.{resultIn, textOf, replyTo}
+use Rattle.reply.specs.Demands.{Examples}
+
+pub examples : Examples
+unfolding
+    replyTo resultIn textOf check tablesFault firstRow above ruleRows bookRows orderRows admitRows bytesOf number wordAt wordsIn pair clausesIn flat
+    outcomeText fields clauseLines recordLines decimal decimalUpTo
+    minus meets firstOf lowest membersUpTo members ones onesIn vars keepers satisfied falsified names undecidedIn without undecided live
+    allInactive monotone firstMonotone sweep unit swept falsifiedNaming enter same resolvent join merge step search units finish searched run
+examples = record { documented = refl; nothing = refl; no-whole-order = refl; no-book = refl; faulty-order = refl }
