@@ -1,2 +1,2 @@
--- Laws of what the exported function leaves.
-pub mod Exported
+-- The demand on the exported check.
+pub mod Demands

@@ -1,27 +1,51 @@
--- `optcheck_c::optcheck_check` meets its contract. With too few places it leaves all as it was; else what it leaves is what the check, the reply and its words are. Assumes nothing.
-use mathlib.Core.Path.{sym, _∙_}
-use native.Mathlib.Omega.{arith}
-use Rattle.checker.specs.Check.{check}
-use Rattle.checker.specs.Filled.{Tables, lengths}
+-- `optcheck_c::optcheck_check` meets its contract: the check leaves what it promises, and its answer fits a word (crate `contract`), which is returned. Assumes nothing.
+use mathlib.Core.Path.{_≡_, ap, subst⁻¹, _∙_}
+use mathlib.Core.List.{List}
+use Prim.Native.Nat.{ℕ, _^_, _<_}
+use Rattle.steps.specs.Run.{Assumptions}
+use Rattle.answer.specs.Packed.{packed, Packable}
+use Rattle.answer.specs.declared.Answer.{Answer}
+use Rattle.contract.specs.Filled.{Tables, lent, lengths, Checked}
+use Rattle.contract.proofs.Demands as contract
 use borrow.Author.Needs.{needs}
-use Rattle.optcheck_c.proofs.Exported.{exported-short, exported-checked, left-by}
+use Rattle.optcheck_c.specs.Exported.{Exported}
 use Rattle.optcheck_c.proofs.optcheck_check.Statement.{statement}
 use Rattle.optcheck_c.proofs.optcheck_check.Tie as tie
 
-returns : tie.Need-returns
-returns c =
-    let a = c .before .before .before .before .before .before .before .before .args in
-    let t : Tables = record { pos = a .pos .now; neg = a .neg .now; on = a .on .now; trues = a .trues .now; redundant = a .redundant .now } in
-    sym (exported-short (a .book .now) (record { pos = a .wanted; neg = a .unwanted }) (a .allowance) t (a .answer .now) (omega (arith, c .if1 .taken)))
+-- what a check promises
+module _ (bytes : List ℕ) (o : Assumptions) (allowance : ℕ) (before after : Tables) (r : Answer) (checked : Checked bytes o allowance before r after) where
+  -- its answer fits a word
+  fits : allowance < 2 ^ 32 → Packable r
+  fits h = subst⁻¹ Packable (checked .answer) (contract.demands .answers-fit bytes o allowance (lengths before) h)
+
+  -- and with that word it is what is promised here
+  exported : (w : ℕ) → w ≡ packed r → Exported bytes o allowance before w after
+  exported w e = record { word = e ∙ ap packed (checked .answer); tables = checked .tables }
+
+-- the check, before its answer is packed
+abbrev check-done : tie.After-slice-known10 → tie.After-check
+check-done c = c .before .before .before .before .before .before .before .before .before .before
+
+-- the function's arguments
+abbrev start : tie.After-check → tie.Start
+start c = c .before .before .before .before .before .before .before .before .before .before .before .before
+
+-- the lent tables, before the check and after it
+abbrev before : tie.After-check → Tables
+before c = let a = start c .args in lent (a .pos .now) (a .neg .now) (a .decided .now) (a .trues .now) (a .redundant .now)
+
+abbrev left : tie.After-check → Tables
+left c =
+    let last = c .check .last .1 .1 .1 in
+    lent (last .0) (last .1 .0) (last .1 .1 .0) (last .1 .1 .1 .0) (last .1 .1 .1 .1 .0)
 
 check-requires : tie.Need-check-requires
 check-requires c κs = search needs
 
-reply-of-requires : tie.Need-reply-of-requires
-reply-of-requires c κs = search needs
-
-put-reply-requires : tie.Need-put-reply-requires
-put-reply-requires c κs = search needs
+word-of-requires : tie.Need-word-of-requires
+word-of-requires c κs =
+    let done = check-done c in
+    fits _ _ _ (before done) (left done) _ (done .check .ensures) (start done .fits .allowance .fits)
 
 same-length : tie.Need-same-length
 same-length c = search needs
@@ -38,43 +62,20 @@ same-length-4 c = search needs
 same-length-5 : tie.Need-same-length-5
 same-length-5 c = search needs
 
-same-length-6 : tie.Need-same-length-6
-same-length-6 c = search needs
-
-returns-2 : tie.Need-returns-2
-returns-2 c =
-    let put = c .before .before in
-    let r = put .before .before in
-    let d = r .before .before .before .before .before .before .before .before .before .before .before in
-    let e = d .before .before .before .before .before .before in
-    let a = e .before .before .before .before .before .before .before .before .args in
-    let t : Tables = record { pos = a .pos .now; neg = a .neg .now; on = a .on .now; trues = a .trues .now; redundant = a .redundant .now } in
-    left-by
-    (check (a .book .now) (record { pos = a .wanted; neg = a .unwanted }) (a .allowance) (lengths t))
-    t
-    _
-    (a .answer .now)
-    _
-    _
-    _
-    (d .check .ensures .answer)
-    (d .check .ensures .tables)
-    (r .reply-of .ensures)
-    (put .put-reply .ensures)
-    ∙ sym (exported-checked (a .book .now) (record { pos = a .wanted; neg = a .unwanted }) (a .allowance) t (a .answer .now) (omega (arith, e .if1 .left)))
+returns : tie.Need-returns
+returns c =
+    let done = check-done (c .before) in
+    exported _ _ _ (before done) (left done) _ (done .check .ensures) _ (c .word-of .ensures)
 
 pub optcheck-check-spec : {M : Type 1} → statement M
 optcheck-check-spec =
     tie.close
     (tie.spec
-    returns
     check-requires
-    reply-of-requires
-    put-reply-requires
+    word-of-requires
     same-length
     same-length-2
     same-length-3
     same-length-4
     same-length-5
-    same-length-6
-    returns-2)
+    returns)
