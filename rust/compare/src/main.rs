@@ -1,0 +1,176 @@
+//! `compare`: the checker beside the port, outside solvers and other people's outcomes. It ends with
+//! 0 where all agree, with 1 at a difference or where something is missing, and with 2 on a bad
+//! command line.
+
+mod allowances;
+mod bench;
+mod choices;
+mod differential;
+mod hex;
+mod kinds;
+#[cfg(any(test, feature = "proved"))]
+mod lent;
+#[cfg(feature = "proved")]
+mod library;
+mod outside;
+mod question;
+mod random;
+mod shapes;
+mod small;
+mod under_test;
+mod vectors;
+
+use outside::Solver;
+use std::time::Instant;
+use std::{env, fs, process};
+use under_test::{Port, Program, UnderTest};
+
+const USAGE: &str = "\
+compare differential [--program PATH] [--seed S] [--books N] [--solver NAME]
+    generated books through the checker and the port, each verdict also by an outside solver
+compare vectors FILE... [--program PATH]
+    the cases of these files through the checker and the port
+compare allowances
+    small books with every allowance and number of places through the checker and the port
+compare bench [--seed S] [--solver NAME]
+    the same books through the checker, the port and an outside solver, as a table
+
+The checker is the program at PATH or, where compare is built with the feature `proved`, the library.
+The outside solver is the first installed of minisat, cadical and picosat, if NAME does not say.
+";
+
+const SEED: u64 = 1;
+const BOOKS: usize = 4000;
+
+/// What the lent tables hold before a run.
+const RUBBISH: u64 = 0xa5a5_5a5a_a5a5_5a5a;
+
+/// The words of the command line after the subcommand.
+#[derive(Default)]
+struct Words {
+    files: Vec<String>,
+    program: Option<String>,
+    seed: Option<u64>,
+    books: Option<usize>,
+    solver: Option<String>,
+}
+
+fn main() {
+    let mut words = env::args().skip(1);
+    let command = words.next().unwrap_or_default();
+    let Some(words) = read_words(words) else { usage() };
+    if words.files.is_empty() == (command == "vectors") {
+        usage();
+    }
+    let done = match command.as_str() {
+        "differential" => differential(&words),
+        "vectors" => vectors(&words),
+        "allowances" => allowances(),
+        "bench" => bench(&words),
+        _ => usage(),
+    };
+    if let Err(what) = done {
+        eprintln!("compare {command}: {what}");
+        process::exit(1);
+    }
+}
+
+fn usage() -> ! {
+    eprint!("{USAGE}");
+    process::exit(2);
+}
+
+fn read_words(mut words: impl Iterator<Item = String>) -> Option<Words> {
+    let mut read = Words::default();
+    while let Some(word) = words.next() {
+        match word.as_str() {
+            "--program" => read.program = Some(words.next()?),
+            "--seed" => read.seed = Some(words.next()?.parse().ok()?),
+            "--books" => read.books = Some(words.next()?.parse().ok()?),
+            "--solver" => read.solver = Some(words.next()?),
+            _ if word.starts_with('-') => return None,
+            _ => read.files.push(word),
+        }
+    }
+    Some(read)
+}
+
+fn differential(words: &Words) -> Result<(), String> {
+    let mut tested = under_test(words)?;
+    let solver = Solver::find(words.solver.as_deref())?;
+    let (seed, books) = (words.seed.unwrap_or(SEED), words.books.unwrap_or(BOOKS));
+    let (name, by) = (tested.name(), solver.name());
+    println!("{books} books of seed {seed}: {name}, the port, {by}, all choices of small books");
+    let start = Instant::now();
+    let outside = |order, book: &_| solver.can_be_built(order, book);
+    let tally = differential::run(tested.as_mut(), &outside, seed, books)?;
+    print!("{}", tally.told());
+    println!("no difference, in {:.1} s", start.elapsed().as_secs_f64());
+    Ok(())
+}
+
+/// The last line has the counts of all files together; a case that differs is an error.
+fn vectors(words: &Words) -> Result<(), String> {
+    let mut tested = [under_test(words)?, Box::new(Port)];
+    let (mut agree, mut differ, mut skipped) = (0, Vec::new(), 0);
+    for file in &words.files {
+        let text = fs::read_to_string(file).map_err(|error| format!("{file}: {error}"))?;
+        let (score, told) =
+            vectors::run(&mut tested, &text).map_err(|what| format!("{file}: {what}"))?;
+        print!(
+            "{file}: {} agree, {} differ, {} skipped\n{told}",
+            score.agree,
+            score.differ.len(),
+            score.skipped
+        );
+        agree += score.agree;
+        skipped += score.skipped;
+        differ.extend(score.differ);
+    }
+    let checkers = tested.map(|checker| checker.name()).join(", ");
+    println!("{checkers}: {agree} cases agree, {} differ, {skipped} skipped", differ.len());
+    match differ.is_empty() {
+        true => Ok(()),
+        false => Err(format!("cases that differ: {}", differ.join(", "))),
+    }
+}
+
+fn allowances() -> Result<(), String> {
+    library(RUBBISH)?;
+    let make = |rubbish| library(rubbish).expect("the library is there");
+    let tried = allowances::run(&make)?;
+    println!(
+        "{} small books, {} pairs of allowances and {} lengths of tables, each with two kinds of \
+         rubbish: no difference",
+        tried.books, tried.pairs, tried.lengths
+    );
+    Ok(())
+}
+
+fn bench(words: &Words) -> Result<(), String> {
+    let solver = Solver::find(words.solver.as_deref());
+    if let (Err(missing), Some(_)) = (&solver, &words.solver) {
+        return Err(missing.clone());
+    }
+    bench::run(solver, words.seed.unwrap_or(SEED))
+}
+
+/// The program that was given, else the library.
+fn under_test(words: &Words) -> Result<Box<dyn UnderTest>, String> {
+    match &words.program {
+        Some(path) => Ok(Box::new(Program { path: path.clone() })),
+        None => library(RUBBISH),
+    }
+}
+
+/// The library, with this rubbish in the tables that it is lent.
+#[cfg(feature = "proved")]
+fn library(rubbish: u64) -> Result<Box<dyn UnderTest>, String> {
+    Ok(Box::new(library::Library { rubbish }))
+}
+
+#[cfg(not(feature = "proved"))]
+fn library(_: u64) -> Result<Box<dyn UnderTest>, String> {
+    Err("no checker to compare: give --program PATH, or build with the feature `proved`"
+        .to_string())
+}

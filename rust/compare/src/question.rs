@@ -1,0 +1,81 @@
+//! A check as it is asked of a checker, and what the port answers.
+
+use port::{Outcome, Places, Request, PROGRAM_ALLOWANCE, PROGRAM_PLACES, PROGRAM_RECORD_PLACES};
+
+/// The bytes of an order on standard input.
+pub const ORDER: usize = 16;
+
+/// A check: the bytes of standard input, the lengths of the lent tables and the allowance.
+#[derive(Clone, Debug)]
+pub struct Check {
+    pub input: Vec<u8>,
+    pub places: Places,
+    pub allowance: u32,
+}
+
+impl Check {
+    /// A check with the program's own places and allowance.
+    pub fn of_program(input: Vec<u8>) -> Check {
+        let places = Places::equal(PROGRAM_PLACES, PROGRAM_RECORD_PLACES);
+        Check { input, places, allowance: PROGRAM_ALLOWANCE }
+    }
+
+    /// The same input with other limits.
+    pub fn with_limits(&self, places: Places, allowance: u32) -> Check {
+        Check { places, allowance, input: self.input.clone() }
+    }
+
+    /// The wanted word, the unwanted word and the book; none where the order is cut short.
+    pub fn parts(&self) -> Option<(u64, u64, &[u8])> {
+        let (order, book) = self.input.split_at_checked(ORDER)?;
+        let (wanted, unwanted) = order.split_at(ORDER / 2);
+        Some((word(wanted), word(unwanted), book))
+    }
+
+    /// The outcome of the port.
+    pub fn port_outcome(&self) -> Outcome {
+        let Some((wanted, unwanted, book)) = self.parts() else {
+            return Outcome::refused(1);
+        };
+        let (places, allowance) = (self.places, self.allowance);
+        port::check(&Request { book, wanted, unwanted, places, allowance })
+    }
+}
+
+fn word(bytes: &[u8]) -> u64 {
+    u64::from_le_bytes(bytes.try_into().expect("a word has eight bytes"))
+}
+
+/// The first line in which what a checker prints is not what is due, with both lines.
+pub fn first_difference(printed: &str, due: &str) -> String {
+    let same = printed.lines().zip(due.lines()).take_while(|(left, right)| left == right).count();
+    let line = |text: &str| match text.lines().nth(same) {
+        Some(line) => format!("`{line}`"),
+        None => "nothing".to_string(),
+    };
+    format!("line {} is {}, due is {}", same + 1, line(printed), line(due))
+}
+
+#[cfg(test)]
+mod tests {
+    use super::*;
+
+    #[test]
+    fn the_order_stands_before_the_book() {
+        let mut input = vec![0; ORDER];
+        input[0] = 5;
+        input[ORDER - 1] = 1;
+        input.extend([7, 0, 0]);
+        let check = Check::of_program(input);
+        assert_eq!(check.parts(), Some((5, 1 << 56, &[7, 0, 0][..])));
+        assert_eq!(Check::of_program(vec![0; ORDER - 1]).parts(), None);
+    }
+
+    #[test]
+    fn the_first_line_that_differs_is_told() {
+        let told = first_difference("can 0 0 0 1\nr 0 0 1\n", "can 0 0 0 1\n");
+        assert_eq!(told, "line 2 is `r 0 0 1`, due is nothing");
+        let told = first_difference("can 0 0 0 1\n", "cannot 0 0 0 1\n");
+        assert_eq!(told, "line 1 is `can 0 0 0 1`, due is `cannot 0 0 0 1`");
+    }
+}

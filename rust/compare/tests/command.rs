@@ -1,0 +1,60 @@
+//! The command `compare`: how it ends, and what it says where something is missing or differs.
+
+use std::path::Path;
+use std::process::{Command, Output};
+
+fn compare(words: &[&str]) -> Output {
+    Command::new(env!("CARGO_BIN_EXE_compare")).args(words).output().unwrap()
+}
+
+fn said(output: &Output) -> String {
+    String::from_utf8_lossy(&output.stderr).into_owned()
+}
+
+fn vectors() -> String {
+    let path = Path::new(env!("CARGO_MANIFEST_DIR")).join("../../tests/vectors/base.txt");
+    path.to_str().unwrap().to_string()
+}
+
+#[test]
+fn a_missing_solver_fails_and_says_so() {
+    let output = compare(&["differential", "--program", "cat", "--solver", "no-such-solver"]);
+    assert_eq!(output.status.code(), Some(1));
+    assert!(said(&output).contains("no outside solver is installed"), "{}", said(&output));
+}
+
+#[test]
+fn a_program_that_prints_something_else_differs_with_its_book() {
+    let output = compare(&["differential", "--program", "cat", "--solver", "true"]);
+    assert_eq!(output.status.code(), Some(1));
+    let said = said(&output);
+    assert!(said.contains("book 0 of seed 1: the outcomes differ"), "{said}");
+    assert!(said.contains("standard input in hexadecimal:\n"), "{said}");
+}
+
+#[test]
+fn a_vector_that_differs_is_named() {
+    let output = compare(&["vectors", &vectors(), "--program", "cat"]);
+    assert_eq!(output.status.code(), Some(1));
+    let told = String::from_utf8_lossy(&output.stdout);
+    let due = "case empty differs, program cat: line 1 is nothing, due is `refused 1 0 0 0`\n";
+    assert!(told.contains(due), "{told}");
+    assert!(told.ends_with("program cat, port: 0 cases agree, 419 differ, 0 skipped\n"), "{told}");
+    assert!(said(&output).starts_with("compare vectors: cases that differ: empty, short order, "));
+}
+
+#[test]
+fn a_missing_file_of_vectors_fails_and_is_named() {
+    let output = compare(&["vectors", &vectors(), "no-such-file", "--program", "cat"]);
+    assert_eq!(output.status.code(), Some(1));
+    assert!(said(&output).starts_with("compare vectors: no-such-file: "), "{}", said(&output));
+}
+
+#[test]
+fn a_bad_command_line_ends_with_2() {
+    let bad: [&[&str]; 5] =
+        [&[], &["check"], &["vectors"], &["differential", "--seed", "x"], &["bench", "a"]];
+    for words in bad {
+        assert_eq!(compare(words).status.code(), Some(2), "{words:?}");
+    }
+}

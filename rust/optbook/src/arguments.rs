@@ -1,0 +1,120 @@
+//! The command line after the verb: files, and flags with a value each.
+
+use crate::ending::Failure;
+use std::ops::RangeInclusive;
+
+/// How many files a verb takes, at least and at most.
+pub type Files = (usize, usize);
+
+/// The files and the flags of a command line.
+#[derive(Debug, Default)]
+pub struct Arguments {
+    pub files: Vec<String>,
+    flags: Vec<(String, String)>,
+}
+
+impl Arguments {
+    /// Reads the words of a verb that knows these flags and takes so many files.
+    pub fn read(words: &[String], known: &[&str], files: Files) -> Result<Arguments, Failure> {
+        let mut read = Arguments::default();
+        let mut words = words.iter();
+        while let Some(word) = words.next() {
+            if !word.starts_with('-') || word == "-" {
+                read.files.push(word.clone());
+            } else if !known.contains(&word.as_str()) {
+                return usage(format!("`{word}` is unknown here"));
+            } else if read.value(word).is_some() {
+                return usage(format!("`{word}` is given twice: expected it once"));
+            } else {
+                let Some(value) = words.next() else {
+                    return usage(format!("nothing stands after `{word}`: expected its value"));
+                };
+                read.flags.push((word.clone(), value.clone()));
+            }
+        }
+        let (least, most) = files;
+        if !(least..=most).contains(&read.files.len()) {
+            let expected = match least == most {
+                true => least.to_string(),
+                false => format!("{least} at least and {most} at most"),
+            };
+            return usage(format!("{} files are given: expected {expected}", read.files.len()));
+        }
+        if read.stdin_uses() > 1 {
+            return usage("`-` stands twice: standard input is read once".to_string());
+        }
+        Ok(read)
+    }
+
+    /// The value of a flag, where it is given.
+    pub fn value(&self, flag: &str) -> Option<&str> {
+        self.flags.iter().find(|(name, _)| name == flag).map(|(_, value)| value.as_str())
+    }
+
+    /// The number of a flag, where it is given.
+    pub fn number(&self, flag: &str, range: RangeInclusive<u32>) -> Result<Option<u32>, Failure> {
+        let Some(value) = self.value(flag) else { return Ok(None) };
+        match value.parse() {
+            Ok(number) if range.contains(&number) => Ok(Some(number)),
+            _ => {
+                let (least, most) = range.into_inner();
+                usage(format!("`{flag} {value}`: expected a number from {least} to {most}"))
+            }
+        }
+    }
+
+    fn stdin_uses(&self) -> usize {
+        let values = self.flags.iter().map(|(_, value)| value);
+        self.files.iter().chain(values).filter(|word| *word == "-").count()
+    }
+}
+
+fn usage<T>(what: String) -> Result<T, Failure> {
+    Err(Failure::Usage(what))
+}
+
+#[cfg(test)]
+mod tests {
+    use super::*;
+
+    fn read(line: &str) -> Result<Arguments, String> {
+        let words: Vec<String> = line.split_whitespace().map(str::to_string).collect();
+        let read = Arguments::read(&words, &["--allowance", "--names"], (1, 2));
+        read.map_err(|failure| failure.to_string())
+    }
+
+    #[test]
+    fn files_and_flags_stand_in_any_order() {
+        let arguments = read("--allowance 7 book - --names n").unwrap();
+        assert_eq!(arguments.files, ["book", "-"]);
+        assert_eq!(arguments.value("--names"), Some("n"));
+        assert!(matches!(arguments.number("--allowance", 0..=9), Ok(Some(7))));
+        assert!(matches!(read("book").unwrap().number("--allowance", 0..=9), Ok(None)));
+    }
+
+    #[test]
+    fn each_bad_command_line_is_told() {
+        let due = [
+            ("", "0 files are given: expected 1 at least and 2 at most"),
+            ("a b c", "3 files are given: expected 1 at least and 2 at most"),
+            ("a --places 3", "`--places` is unknown here"),
+            ("a --allowance", "nothing stands after `--allowance`: expected its value"),
+            ("a --names b --names c", "`--names` is given twice: expected it once"),
+            ("- -", "`-` stands twice: standard input is read once"),
+            ("- --names -", "`-` stands twice: standard input is read once"),
+        ];
+        for (line, what) in due {
+            assert_eq!(read(line).unwrap_err(), what, "{line}");
+        }
+    }
+
+    #[test]
+    fn a_number_is_in_its_range() {
+        for value in ["10", "-1", "many"] {
+            let arguments = read(&format!("a --allowance {value}")).unwrap();
+            let failure = arguments.number("--allowance", 0..=9).err().unwrap();
+            let due = format!("`--allowance {value}`: expected a number from 0 to 9");
+            assert_eq!(failure.to_string(), due);
+        }
+    }
+}

@@ -1,0 +1,61 @@
+//! Option books and orders in readable form, over the proved checker.
+//!
+//! `sheet` reads the readable form with the line of each mistake, and `text` writes it; `bytes` and
+//! `dimacs` are the two other forms of a book. `engine` is the proved check, `outcome` tells what it
+//! found with the options' names, and `explain` looks for the reason of a `cannot`.
+
+pub mod bytes;
+pub mod dimacs;
+pub mod engine;
+pub mod explain;
+pub mod outcome;
+pub mod sheet;
+pub mod text;
+
+/// A book has at most this many options.
+pub const OPTIONS: usize = 64;
+/// A book has at most this many rules.
+pub const RULES: usize = 1024;
+
+/// A rule: the options that keep it when fitted, and those that keep it when left out. Option k
+/// stands at bit k - 1.
+#[derive(Clone, Copy, Debug, Default, PartialEq, Eq)]
+pub struct Rule {
+    pub fitted: u64,
+    pub left_out: u64,
+}
+
+/// A number of options, and rules over them.
+#[derive(Clone, Debug, Default, PartialEq, Eq)]
+pub struct Book {
+    pub options: usize,
+    pub rules: Vec<Rule>,
+}
+
+/// The wanted and the unwanted options; the others are free.
+#[derive(Clone, Copy, Debug, Default, PartialEq, Eq)]
+pub struct Order {
+    pub wanted: u64,
+    pub unwanted: u64,
+}
+
+/// The option with this index, counted from 0, as a set.
+pub fn option(index: usize) -> u64 {
+    1 << index
+}
+
+/// The first options, up to 64 of them, as a set.
+pub fn first(count: usize) -> u64 {
+    if count >= OPTIONS {
+        u64::MAX
+    } else {
+        option(count) - 1
+    }
+}
+
+impl Rule {
+    /// A choice of fitted options keeps the rule.
+    pub fn is_kept_by(self, choice: u64) -> bool {
+        self.fitted & choice != 0 || self.left_out & !choice != 0
+    }
+}

@@ -1,0 +1,110 @@
+//! The outcome of a check in words: how it ended, the counts, each derived rule as a rule, and each
+//! record as its decisions and its struck options.
+
+use crate::engine::{Answer, Checked, Kind, Record};
+use crate::text::{rule_text, set_text};
+
+/// What each refusal (1 to 9) and each stop (10 and 11) says, by its number.
+const REASONS: [&str; 11] = [
+    "the book has fewer than 3 bytes",
+    "the book has more than 64 options",
+    "the book has more than 1,024 rules",
+    "the book's length is not 3 + 16 for each rule",
+    "a rule names an option above the book's last",
+    "a rule has one option in both words",
+    "the order names an option above the book's last",
+    "an option is both wanted and unwanted",
+    "the places for derived rules are more than 2,048",
+    "another branching is due and the allowance is spent",
+    "a new derived rule is due and all its places are full",
+];
+
+/// The outcome in words, over options with these names.
+pub fn in_words(checked: &Checked, names: &[String]) -> String {
+    let mut text = format!("{}\n{}\n", ending(checked.answer), counts(checked.answer));
+    for &rule in &checked.derived {
+        text += &format!("derived rule: {}\n", rule_text(rule, names));
+    }
+    for &record in &checked.records {
+        text += &format!("record: {}\n", record_text(record, names));
+    }
+    text
+}
+
+/// How a check ended.
+pub fn ending(answer: Answer) -> String {
+    let number = answer.number;
+    let reason = number.checked_sub(1).and_then(|index| REASONS.get(index as usize));
+    let reason = reason.unwrap_or(&"no number of the table");
+    match answer.kind {
+        Kind::Can => "can be built: some choice of options keeps every rule and wish".to_string(),
+        Kind::Cannot => {
+            "cannot be built: no choice of options keeps every rule and wish".to_string()
+        }
+        Kind::Refused => format!("refused, number {number}: {reason}"),
+        Kind::Stopped => format!("stopped without a verdict, number {number}: {reason}"),
+    }
+}
+
+fn counts(answer: Answer) -> String {
+    let Answer { branchings, derived, records, .. } = answer;
+    format!("branchings {branchings}, derived rules {derived}, records {records}")
+}
+
+fn record_text(record: Record, names: &[String]) -> String {
+    let Record { decided, fitted, struck } = record;
+    let [fitted, left_out, struck] =
+        [decided & fitted, decided & !fitted, struck].map(|set| set_text(set, names));
+    format!("fitted {fitted}; left out {left_out}; struck {struck}")
+}
+
+#[cfg(test)]
+mod tests {
+    use super::*;
+    use crate::text::numbered_names;
+    use crate::Rule;
+
+    fn answer(kind: Kind, number: u32, derived: usize, records: usize) -> Answer {
+        Answer { kind, number, branchings: 2, derived, records }
+    }
+
+    #[test]
+    fn derived_rules_and_records_are_told_with_names() {
+        let names = ["a", "b", "c"].map(str::to_string);
+        let derived = vec![Rule { fitted: 1, left_out: 2 }, Rule::default()];
+        let records = vec![
+            Record { decided: 0, fitted: 0, struck: 7 },
+            Record { decided: 3, fitted: 1, struck: 4 },
+        ];
+        let checked = Checked { answer: answer(Kind::Cannot, 0, 2, 2), derived, records };
+        let due = "cannot be built: no choice of options keeps every rule and wish\n\
+                   branchings 2, derived rules 2, records 2\n\
+                   derived rule: a | !b\n\
+                   derived rule: false\n\
+                   record: fitted (none); left out (none); struck a b c\n\
+                   record: fitted a; left out b; struck c\n";
+        assert_eq!(in_words(&checked, &names), due);
+    }
+
+    #[test]
+    fn each_ending_is_told() {
+        let told = |kind, number| ending(answer(kind, number, 0, 0));
+        assert!(told(Kind::Can, 0).starts_with("can be built: "));
+        assert!(told(Kind::Cannot, 0).starts_with("cannot be built: "));
+        assert_eq!(told(Kind::Refused, 1), "refused, number 1: the book has fewer than 3 bytes");
+        let nine = "refused, number 9: the places for derived rules are more than 2,048";
+        assert_eq!(told(Kind::Refused, 9), nine);
+        let ten = "stopped without a verdict, number 10: another branching is due and the \
+                   allowance is spent";
+        assert_eq!(told(Kind::Stopped, 10), ten);
+        assert!(told(Kind::Stopped, 11).ends_with("all its places are full"));
+        assert_eq!(told(Kind::Refused, 63), "refused, number 63: no number of the table");
+    }
+
+    #[test]
+    fn nothing_derived_is_two_lines() {
+        let checked =
+            Checked { answer: answer(Kind::Can, 0, 0, 0), derived: vec![], records: vec![] };
+        assert_eq!(in_words(&checked, &numbered_names(2)).lines().count(), 2);
+    }
+}

@@ -1,0 +1,338 @@
+//! Reading the readable form of a book and an order, one thing a line:
+//!
+//! ```text
+//! # what is to be fitted
+//! options: ring_main twin_header third_vessel
+//! ring_main | twin_header | !third_vessel
+//! want: ring_main
+//! without: third_vessel
+//! ```
+//!
+//! `options:` names the options, the first being option 1; it stands before all else and may be
+//! repeated. A rule is entries with `|` between them; `!` says that leaving the option out keeps
+//! the rule. `false` alone is the empty rule, which nothing keeps. `want:` and `without:` add to
+//! the order. `#` begins a comment. A name is letters, digits and underscores, and begins with no
+//! digit.
+
+use crate::text::EMPTY_RULE;
+use crate::{option, Book, Order, Rule, OPTIONS, RULES};
+use std::fmt;
+
+/// Where something stands: the text's name, and the line, counted from 1.
+#[derive(Clone, Debug, PartialEq, Eq)]
+pub struct Place {
+    pub file: String,
+    pub line: usize,
+}
+
+/// A mistake in a text: where, and what is wrong there and what was expected.
+#[derive(Clone, Debug, PartialEq, Eq)]
+pub struct Mistake {
+    pub place: Place,
+    pub what: String,
+}
+
+/// What must be kept: a rule of the book, or a wish of the order for one option, given as a set.
+#[derive(Clone, Copy, Debug, PartialEq, Eq)]
+pub enum Demand {
+    Rule(Rule),
+    Want(u64),
+    Without(u64),
+}
+
+/// The options' names, and the demands of a book and an order, each with its place.
+#[derive(Clone, Debug, Default, PartialEq, Eq)]
+pub struct Sheet {
+    pub names: Vec<String>,
+    pub demands: Vec<(Demand, Place)>,
+}
+
+impl fmt::Display for Place {
+    fn fmt(&self, f: &mut fmt::Formatter<'_>) -> fmt::Result {
+        write!(f, "{}: line {}", self.file, self.line)
+    }
+}
+
+impl fmt::Display for Mistake {
+    fn fmt(&self, f: &mut fmt::Formatter<'_>) -> fmt::Result {
+        write!(f, "{}: {}", self.place, self.what)
+    }
+}
+
+/// The rules among these demands.
+pub fn rules<'a>(demands: impl IntoIterator<Item = &'a Demand>) -> Vec<Rule> {
+    let rule = |demand: &Demand| match demand {
+        Demand::Rule(rule) => Some(*rule),
+        Demand::Want(_) | Demand::Without(_) => None,
+    };
+    demands.into_iter().filter_map(rule).collect()
+}
+
+/// The wishes among these demands, as one order.
+pub fn order<'a>(demands: impl IntoIterator<Item = &'a Demand>) -> Order {
+    let mut order = Order::default();
+    for demand in demands {
+        match demand {
+            Demand::Rule(_) => (),
+            Demand::Want(option) => order.wanted |= option,
+            Demand::Without(option) => order.unwanted |= option,
+        }
+    }
+    order
+}
+
+impl Sheet {
+    /// The sheet of one text.
+    pub fn of(file: &str, text: &str) -> Result<Sheet, Mistake> {
+        let mut sheet = Sheet::default();
+        sheet.read(file, text).map(|()| sheet)
+    }
+
+    /// Reads a text into the sheet, after what it already holds.
+    pub fn read(&mut self, file: &str, text: &str) -> Result<(), Mistake> {
+        for (index, line) in text.lines().enumerate() {
+            let place = Place { file: file.to_string(), line: index + 1 };
+            let line = line.split('#').next().unwrap_or("").trim();
+            self.read_line(&place, line).map_err(|what| Mistake { place, what })?;
+        }
+        Ok(())
+    }
+
+    pub fn book(&self) -> Book {
+        Book { options: self.names.len(), rules: rules(self.kept()) }
+    }
+
+    pub fn order(&self) -> Order {
+        order(self.kept())
+    }
+
+    fn kept(&self) -> impl Iterator<Item = &Demand> {
+        self.demands.iter().map(|(demand, _)| demand)
+    }
+
+    fn read_line(&mut self, place: &Place, line: &str) -> Result<(), String> {
+        if line.is_empty() {
+            return Ok(());
+        }
+        let Some((word, rest)) = line.split_once(':') else {
+            return self.read_rule(place, line);
+        };
+        match word.trim() {
+            "options" => self.read_options(rest),
+            "want" => self.read_wishes(place, rest, Demand::Want),
+            "without" => self.read_wishes(place, rest, Demand::Without),
+            other => Err(format!(
+                "`{other}:` is unknown: expected `options:`, `want:`, `without:` or a rule"
+            )),
+        }
+    }
+
+    fn read_options(&mut self, names: &str) -> Result<(), String> {
+        if !self.demands.is_empty() {
+            let expected = "expected all options before them";
+            return Err(format!("`options:` stands after a rule or a wish: {expected}"));
+        }
+        for name in names.split_whitespace() {
+            check_name(name)?;
+            if self.names.iter().any(|known| known == name) {
+                return Err(format!("option `{name}` is named twice: expected each name once"));
+            }
+            if self.names.len() == OPTIONS {
+                let number = OPTIONS + 1;
+                return Err(format!("`{name}` is option {number}: expected at most {OPTIONS}"));
+            }
+            self.names.push(name.to_string());
+        }
+        Ok(())
+    }
+
+    fn read_rule(&mut self, place: &Place, line: &str) -> Result<(), String> {
+        if rules(self.kept()).len() == RULES {
+            return Err(format!("this is rule {}: expected at most {RULES}", RULES + 1));
+        }
+        let mut rule = Rule::default();
+        if line != EMPTY_RULE {
+            for entry in line.split('|') {
+                self.add_entry(&mut rule, entry.trim())?;
+            }
+        }
+        self.demands.push((Demand::Rule(rule), place.clone()));
+        Ok(())
+    }
+
+    fn add_entry(&self, rule: &mut Rule, entry: &str) -> Result<(), String> {
+        let (name, word, other) = match entry.strip_prefix('!') {
+            Some(name) => (name.trim(), &mut rule.left_out, rule.fitted),
+            None => (entry, &mut rule.fitted, rule.left_out),
+        };
+        if name.is_empty() {
+            let expected = "expected an option, or `!` and an option, on each side of a `|`";
+            return Err(format!("an entry names no option: {expected}"));
+        }
+        let option = self.find(name)?;
+        let once = "expected each option once in a rule";
+        if other & option != 0 {
+            return Err(format!("`{name}` stands both with and without `!`: {once}"));
+        }
+        if *word & option != 0 {
+            return Err(format!("`{name}` stands twice: {once}"));
+        }
+        *word |= option;
+        Ok(())
+    }
+
+    fn read_wishes(
+        &mut self,
+        place: &Place,
+        names: &str,
+        wish: fn(u64) -> Demand,
+    ) -> Result<(), String> {
+        for name in names.split_whitespace() {
+            let option = self.find(name)?;
+            let demand = wish(option);
+            if self.kept().any(|known| *known == demand) {
+                return Err(format!("`{name}` stands twice in the order: expected it once"));
+            }
+            let order = self.order();
+            if (order.wanted | order.unwanted) & option != 0 {
+                return Err(format!("`{name}` is both wanted and unwanted: expected one of them"));
+            }
+            self.demands.push((demand, place.clone()));
+        }
+        Ok(())
+    }
+
+    /// The option with this name, as a set.
+    fn find(&self, name: &str) -> Result<u64, String> {
+        check_name(name)?;
+        match self.names.iter().position(|known| known == name) {
+            Some(index) => Ok(option(index)),
+            None if self.names.is_empty() => {
+                Err(format!("`{name}` is not named yet: expected an `options:` line before it"))
+            }
+            None => {
+                Err(format!("no option is named `{name}`: expected a name of an `options:` line"))
+            }
+        }
+    }
+}
+
+fn check_name(name: &str) -> Result<(), String> {
+    if name == EMPTY_RULE {
+        let expected = "expected it alone on its line";
+        return Err(format!("`{EMPTY_RULE}` is the empty rule and no option: {expected}"));
+    }
+    let begins = name.starts_with(|c: char| c.is_ascii_alphabetic() || c == '_');
+    if begins && name.chars().all(|c| c.is_ascii_alphanumeric() || c == '_') {
+        return Ok(());
+    }
+    let expected = "expected letters, digits and underscores, with no digit first";
+    Err(format!("`{name}` is no option's name: {expected}"))
+}
+
+#[cfg(test)]
+mod tests {
+    use super::*;
+    use crate::text::numbered_names;
+
+    fn mistake(text: &str) -> String {
+        Sheet::of("b", text).unwrap_err().to_string()
+    }
+
+    #[test]
+    fn a_book_and_an_order_are_read() {
+        let sheet = Sheet::of(
+            "b",
+            "# a plant\noptions: ring_main twin_header\noptions: third_vessel # more\n\n\
+             ring_main | twin_header | !third_vessel\n! ring_main\nfalse\n\
+             want: twin_header\nwithout: third_vessel ring_main\n",
+        )
+        .unwrap();
+        assert_eq!(sheet.names, ["ring_main", "twin_header", "third_vessel"]);
+        assert_eq!(sheet.book().options, 3);
+        let rules: Vec<_> = sheet.book().rules.iter().map(|r| (r.fitted, r.left_out)).collect();
+        assert_eq!(rules, [(3, 4), (0, 1), (0, 0)]);
+        assert_eq!(sheet.order(), Order { wanted: 2, unwanted: 5 });
+    }
+
+    #[test]
+    fn each_demand_has_its_place() {
+        let mut sheet = Sheet::of("b", "options: a b\n\na | b\n").unwrap();
+        sheet.read("o", "# an order\nwant: b\nwithout: a\n").unwrap();
+        let places: Vec<_> = sheet.demands.iter().map(|(_, place)| place.to_string()).collect();
+        assert_eq!(places, ["b: line 3", "o: line 2", "o: line 3"]);
+        let kept: Vec<_> = sheet.kept().copied().collect();
+        let rule = Demand::Rule(Rule { fitted: 3, left_out: 0 });
+        assert_eq!(kept, [rule, Demand::Want(2), Demand::Without(1)]);
+    }
+
+    #[test]
+    fn each_mistake_has_its_place_and_what_was_expected() {
+        let after = |line: &str| mistake(&format!("options: a b\n{line}"));
+        let due = [
+            ("a | c", "no option is named `c`: expected a name of an `options:` line"),
+            ("want: c", "no option is named `c`: expected a name of an `options:` line"),
+            (
+                "a | | b",
+                "an entry names no option: expected an option, or `!` and an option, on each side \
+                 of a `|`",
+            ),
+            (
+                "a | !",
+                "an entry names no option: expected an option, or `!` and an option, on each side \
+                 of a `|`",
+            ),
+            ("a | a", "`a` stands twice: expected each option once in a rule"),
+            ("!a | !a", "`a` stands twice: expected each option once in a rule"),
+            ("a | !a", "`a` stands both with and without `!`: expected each option once in a rule"),
+            ("want: a a", "`a` stands twice in the order: expected it once"),
+            ("need: a", "`need:` is unknown: expected `options:`, `want:`, `without:` or a rule"),
+            ("options: a", "option `a` is named twice: expected each name once"),
+            (
+                "a b",
+                "`a b` is no option's name: expected letters, digits and underscores, with no \
+                 digit first",
+            ),
+            (
+                "options: 2nd",
+                "`2nd` is no option's name: expected letters, digits and underscores, with no \
+                 digit first",
+            ),
+            (
+                "options: false",
+                "`false` is the empty rule and no option: expected it alone on its line",
+            ),
+            ("a | false", "`false` is the empty rule and no option: expected it alone on its line"),
+        ];
+        for (line, what) in due {
+            assert_eq!(after(line), format!("b: line 2: {what}"), "{line}");
+        }
+    }
+
+    #[test]
+    fn each_mistake_that_takes_two_lines_stands_at_the_second() {
+        let after = |lines: &str| mistake(&format!("options: a b\n{lines}"));
+        let both = "b: line 3: `a` is both wanted and unwanted: expected one of them";
+        assert_eq!(after("want: a\nwithout: a"), both);
+        assert_eq!(after("without: a\nwant: a"), both);
+        let twice = "b: line 3: `a` stands twice in the order: expected it once";
+        assert_eq!(after("without: a\nwithout: a"), twice);
+        let late = "b: line 3: `options:` stands after a rule or a wish: expected all options \
+                    before them";
+        assert_eq!(after("a\noptions: c"), late);
+        assert_eq!(after("want: a\noptions: c"), late);
+        let early = "b: line 2: `a` is not named yet: expected an `options:` line before it";
+        assert_eq!(mistake("\na | b"), early);
+    }
+
+    #[test]
+    fn the_limits_are_kept() {
+        let names = |count| format!("options: {}\n", numbered_names(count).join(" "));
+        assert_eq!(Sheet::of("b", &names(64)).unwrap().book().options, 64);
+        assert_eq!(mistake(&names(65)), "b: line 1: `x65` is option 65: expected at most 64");
+        let rules = |count| format!("options: a\n{}", "a\n".repeat(count));
+        assert_eq!(Sheet::of("b", &rules(1024)).unwrap().book().rules.len(), 1024);
+        let over = "b: line 1026: this is rule 1025: expected at most 1024";
+        assert_eq!(mistake(&rules(1025)), over);
+    }
+}

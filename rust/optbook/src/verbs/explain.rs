@@ -1,0 +1,108 @@
+//! `optbook explain`: why an order cannot be built, as a readable book with the lines that it is
+//! made of. It can itself be checked, so that nobody need trust this tool.
+
+use super::check::{limits, LIMITS};
+use super::{Verb, CHECKS};
+use crate::arguments::Arguments;
+use crate::ending::{status_of, Failure, Printed};
+use crate::files::read_sheet;
+use optbook::engine::{check, Answer, Kind, Limits, Unlinked};
+use optbook::explain::{smallest, Kept};
+use optbook::outcome::ending;
+use optbook::sheet::{order, rules, Demand, Place, Sheet};
+use optbook::text::{rule_text, set_text};
+use optbook::{option, Book};
+
+pub const VERB: Verb = Verb {
+    name: "explain",
+    takes: CHECKS,
+    does: "says why an order cannot be built: rules and wishes that cannot be kept together",
+    example: "optbook explain examples/plant.book examples/plant_cannot.order",
+    more: "\
+What it prints is a readable book, each line with its place in BOOK or ORDER: the rules and wishes
+that cannot be kept together. Without any one of them the others can: they were left out one after
+the other, and each time the rest was checked by the proved checker. There may be other such sets.
+To check the answer, check it as a book:
+
+  optbook explain BOOK ORDER | optbook check -
+
+--allowance N, --places N  as of `optbook check`, for each check. Where a check stops, the rule or
+                           wish stays, and its line says that it may not be needed
+
+Exit status: 0 can be built, so there is nothing to explain; 1 cannot; 2 refused, 3 stopped before
+a verdict; 64 bad command line, 65 a mistake in BOOK or ORDER.
+",
+    files: (1, 2),
+    flags: &LIMITS,
+    run,
+};
+
+fn run(arguments: &Arguments) -> Result<Printed, Failure> {
+    let limits = limits(arguments)?;
+    let sheet = read_sheet(&arguments.files)?;
+    let demands: Vec<&(Demand, Place)> = sheet.demands.iter().collect();
+    let answer = checked(&sheet, &demands, limits)?;
+    let told = match answer.kind {
+        Kind::Cannot => {
+            let again = |rest: &[_]| checked(&sheet, rest, limits).map(|answer| answer.kind);
+            told(&sheet, &smallest(&demands, again)?)
+        }
+        Kind::Can | Kind::Refused | Kind::Stopped => format!("{}\n", ending(answer)),
+    };
+    Ok(Printed { bytes: told.into_bytes(), status: status_of(answer.kind) })
+}
+
+/// The proved answer to these demands alone.
+fn checked(
+    sheet: &Sheet,
+    demands: &[&(Demand, Place)],
+    limits: Limits,
+) -> Result<Answer, Unlinked> {
+    let demands = || demands.iter().map(|(demand, _)| demand);
+    let book = Book { options: sheet.names.len(), rules: rules(demands()) };
+    Ok(check(&book, order(demands()), limits)?.answer)
+}
+
+/// What stayed, as a readable book.
+fn told(sheet: &Sheet, kept: &[Kept<&(Demand, Place)>]) -> String {
+    let mut text = "# cannot be built: no choice of options keeps all of these\n".to_string();
+    text += match kept.iter().all(|kept| kept.needed) {
+        true => "# without any one of them the others can be kept\n",
+        false => "# without one of them the others can be kept, but for those marked\n",
+    };
+    let lines: Vec<String> = kept.iter().map(|kept| line(kept.demand.0, &sheet.names)).collect();
+    let width = lines.iter().map(|line| line.len()).max().unwrap_or(0);
+    text += &format!("options: {}\n", names(sheet, kept).join(" "));
+    for (line, kept) in lines.iter().zip(kept) {
+        let mark = if kept.needed { "" } else { " (may not be needed: a check stopped)" };
+        text += &format!("{line:width$}  # {}{mark}\n", printable(&kept.demand.1));
+    }
+    text
+}
+
+/// The names that stand in what stayed, in the book's order.
+fn names<'a>(sheet: &'a Sheet, kept: &[Kept<&(Demand, Place)>]) -> Vec<&'a str> {
+    let named = kept.iter().fold(0, |set, kept| set | options(kept.demand.0));
+    let indexed = sheet.names.iter().enumerate();
+    indexed.filter(|(i, _)| named & option(*i) != 0).map(|(_, name)| name.as_str()).collect()
+}
+
+fn options(demand: Demand) -> u64 {
+    match demand {
+        Demand::Rule(rule) => rule.fitted | rule.left_out,
+        Demand::Want(option) | Demand::Without(option) => option,
+    }
+}
+
+fn line(demand: Demand, names: &[String]) -> String {
+    match demand {
+        Demand::Rule(rule) => rule_text(rule, names),
+        Demand::Want(option) => format!("want: {}", set_text(option, names)),
+        Demand::Without(option) => format!("without: {}", set_text(option, names)),
+    }
+}
+
+/// A place on one line, whatever the file's name is.
+fn printable(place: &Place) -> String {
+    place.to_string().replace(char::is_control, "?")
+}

@@ -1,0 +1,136 @@
+//! Where nothing is checked: the forms of a book there and back, mistakes, bad command lines and the
+//! help.
+
+use crate::run::{optbook, CAN, PLANT};
+
+const VERBS: [&str; 6] = ["check", "explain", "bytes", "text", "dimacs", "from-dimacs"];
+
+#[test]
+fn the_plant_goes_to_bytes_and_back() {
+    let bytes = optbook(&["bytes", PLANT, CAN], b"").printed;
+    assert_eq!(bytes.len(), 16 + 3 + 16 * 15);
+    assert_eq!(bytes[16..19], [12, 15, 0]);
+    assert_eq!(bytes[..16], [0x01, 0x08, 0, 0, 0, 0, 0, 0, 0, 0x01, 0, 0, 0, 0, 0, 0]);
+    let ended = optbook(&["text", "-", "--names", PLANT], &bytes);
+    let text = ended.text();
+    assert!(text.contains("\n!drum | ring_main | twin_header\n"), "{text}");
+    assert!(text.ends_with("want: drum screen\nwithout: scrubber\n"), "{text}");
+    assert_eq!(optbook(&["bytes", "-"], text.as_bytes()).printed, bytes);
+}
+
+#[test]
+fn options_without_names_are_numbered() {
+    let bytes = optbook(&["bytes", "-"], b"options: a b\n!b\nwant: a\n").printed;
+    assert_eq!(optbook(&["text", "-"], &bytes).text(), "options: x1 x2\n!x2\nwant: x1\n");
+}
+
+#[test]
+fn a_book_goes_to_dimacs_and_back() {
+    let ended = optbook(&["dimacs", "-"], b"options: a b\na | !b\nwant: b\n");
+    assert_eq!(ended.text(), "c 1 is a\nc 2 is b\np cnf 2 2\n1 -2 0\n2 0\n");
+    assert_eq!(ended.status, 0);
+    let back = optbook(&["from-dimacs", "-"], &ended.printed);
+    assert_eq!(back.text(), "options: x1 x2\nx1 | !x2\nx2\n");
+    let plant = optbook(&["dimacs", PLANT], b"");
+    let back = optbook(&["from-dimacs", "-", "--names", PLANT], &plant.printed);
+    let bytes = optbook(&["bytes", "-"], &back.printed).printed;
+    assert_eq!(bytes, optbook(&["bytes", PLANT], b"").printed);
+}
+
+#[test]
+fn a_clause_that_is_always_kept_is_left_out_and_told() {
+    let ended = optbook(&["from-dimacs", "-"], b"p cnf 2 2\n1 -1 0\n2 0\n");
+    let due = "# left out, for it is always kept: the clause that ends on line 2\n\
+               options: x1 x2\nx2\n";
+    assert_eq!((ended.text(), ended.status), (due, 0));
+}
+
+#[test]
+fn a_mistake_is_told_once_with_file_line_and_what_was_expected() {
+    for verb in ["check", "explain", "bytes", "dimacs"] {
+        let ended = optbook(&[verb, PLANT, "-"], b"\nwant: dram\n");
+        let due = "optbook: standard input: line 2: no option is named `dram`: expected a name of \
+                   an `options:` line\n";
+        assert_eq!((ended.said.as_str(), ended.status), (due, 65), "{verb}");
+        assert!(ended.printed.is_empty());
+    }
+    let ended = optbook(&["from-dimacs", "-"], b"p cnf 65 0\n");
+    let due = "optbook: standard input: line 1: 65 variables: expected at most 64\n";
+    assert_eq!((ended.said.as_str(), ended.status), (due, 65));
+}
+
+#[test]
+fn what_cannot_be_read_is_told_with_its_file() {
+    let ended = optbook(&["bytes", "no-such-file"], b"");
+    assert!(ended.said.starts_with("optbook: no-such-file: "), "{}", ended.said);
+    assert_eq!((ended.said.lines().count(), ended.status), (1, 65));
+    let ended = optbook(&["bytes", "-"], b"options: a\n\n\xff\n");
+    let due = "optbook: standard input: line 3: a byte that is no text: expected UTF-8\n";
+    assert_eq!((ended.said.as_str(), ended.status), (due, 65));
+}
+
+#[test]
+fn bytes_that_are_no_book_are_told() {
+    let ended = optbook(&["text", "-"], &[0; 18]);
+    let due = "optbook: standard input: an order and a book take 19 bytes or more, not 18\n";
+    assert_eq!((ended.said.as_str(), ended.status), (due, 65));
+    let ended = optbook(&["text", "-", "--names", PLANT], &[0; 19]);
+    let due = "optbook: examples/plant.book: 12 names: expected 0\n";
+    assert_eq!((ended.said.as_str(), ended.status), (due, 65));
+}
+
+#[test]
+fn a_bad_command_line_ends_with_64_and_says_how() {
+    let due = [
+        (&["check"][..], "0 files are given: expected 1 at least and 2 at most"),
+        (&["check", "a", "b", "c"], "3 files are given: expected 1 at least and 2 at most"),
+        (&["text", "a", "b"], "2 files are given: expected 1"),
+        (&["check", "-", "-"], "`-` stands twice: standard input is read once"),
+        (&["bytes", PLANT, "--places", "1"], "`--places` is unknown here"),
+        (
+            &["check", PLANT, "--allowance"],
+            "nothing stands after `--allowance`: expected its value",
+        ),
+        (
+            &["check", PLANT, "--allowance", "4294967296"],
+            "`--allowance 4294967296`: expected a number from 0 to 4294967295",
+        ),
+        (
+            &["explain", PLANT, "--places", "all"],
+            "`--places all`: expected a number from 0 to 65535",
+        ),
+    ];
+    for (words, what) in due {
+        let ended = optbook(words, b"");
+        let (said, usage) = ended.said.split_once('\n').unwrap();
+        assert_eq!((said, ended.status), (format!("optbook: {what}").as_str(), 64), "{words:?}");
+        assert!(usage.starts_with(&format!("usage: optbook {} ", words[0])), "{usage}");
+    }
+    let ended = optbook(&["read"], b"");
+    let due = format!("optbook: `read` is no verb: expected one of {}\n", VERBS.join(", "));
+    assert!(ended.said.starts_with(&due), "{}", ended.said);
+    assert_eq!((ended.status, optbook(&[], b"").status), (64, 64));
+}
+
+#[test]
+fn the_help_has_an_example_of_each_verb() {
+    let help = optbook(&["--help"], b"");
+    assert_eq!(help.status, 0);
+    for verb in VERBS {
+        assert!(help.text().matches(&format!("optbook {verb} ")).count() >= 2, "{}", help.text());
+        let of_verb = optbook(&[verb, "--help"], b"");
+        assert!(of_verb.text().starts_with(&format!("optbook {verb} ")), "{}", of_verb.text());
+        assert!(of_verb.text().contains("\nExit status: 0"), "{}", of_verb.text());
+        assert_eq!(of_verb.status, 0);
+    }
+}
+
+#[cfg(not(feature = "proved"))]
+#[test]
+fn without_the_library_nothing_is_checked() {
+    for verb in ["check", "explain"] {
+        let ended = optbook(&[verb, PLANT], b"");
+        assert!(ended.said.starts_with("optbook: built without the proved library"));
+        assert_eq!((ended.status, ended.printed.len()), (69, 0));
+    }
+}

@@ -1,0 +1,6 @@
+//! The command `optbook`, as it is run: where nothing is checked, and with the proved library.
+
+mod forms;
+#[cfg(feature = "proved")]
+mod proved;
+mod run;

@@ -1,0 +1,50 @@
+//! The call into the static library.
+
+use crate::{Answer, Tables};
+
+extern "C" {
+    fn optcheck_check(
+        book: *const u8,
+        book_len: usize,
+        wanted: u64,
+        unwanted: u64,
+        allowance: u32,
+        pos: *mut u64,
+        pos_len: usize,
+        neg: *mut u64,
+        neg_len: usize,
+        decided: *mut u64,
+        decided_len: usize,
+        trues: *mut u64,
+        trues_len: usize,
+        redundant: *mut u64,
+        redundant_len: usize,
+    ) -> u64;
+}
+
+/// Checks an order against a book with at most this many branchings.
+pub fn check(book: &[u8], wanted: u64, unwanted: u64, allowance: u32, tables: Tables) -> Answer {
+    let Tables { pos, neg, decided, trues, redundant } = tables;
+    // Safety: each pointer goes with the length of the slice that it is taken from, the slices are
+    // borrowed for the call, and no two of them overlap.
+    let word = unsafe {
+        optcheck_check(
+            book.as_ptr(),
+            book.len(),
+            wanted,
+            unwanted,
+            allowance,
+            pos.as_mut_ptr(),
+            pos.len(),
+            neg.as_mut_ptr(),
+            neg.len(),
+            decided.as_mut_ptr(),
+            decided.len(),
+            trues.as_mut_ptr(),
+            trues.len(),
+            redundant.as_mut_ptr(),
+            redundant.len(),
+        )
+    };
+    Answer::of_word(word)
+}

@@ -1,0 +1,17 @@
+//! The option book checker's steps (docs/STEPS.md), written the direct way: vectors, loops and
+//! 64-bit words. It shares no text with the proved checker, so that the two can be compared.
+//!
+//! `check` takes a book's bytes, an order, the lent places and an allowance, and gives the outcome.
+//! `run_program` does what the program does with its standard input.
+
+mod book;
+mod outcome;
+mod program;
+mod request;
+mod steps;
+mod words;
+
+pub use outcome::{Ending, Outcome, CAN, CANNOT};
+pub use program::{run_program, PROGRAM_ALLOWANCE, PROGRAM_PLACES, PROGRAM_RECORD_PLACES};
+pub use request::{check, Places, Request};
+pub use words::{Decisions, Record, Rule};
