@@ -11,7 +11,7 @@ use borrow.Author.Tests.{eqb-true, eq-eqb, ltb-false, le-ltb, not-false}
 use lib.Dec.{eqb, ltb}
 use Rattle.words.proofs.Truth.{both-ways, clash, refuted, or-neither}
 use Rattle.steps.specs.Clause.{Clause}
-use Rattle.steps.specs.Run.{Assumptions, Outcome, run}
+use Rattle.steps.specs.Run.{Assumptions, Outcome}
 use Rattle.book.specs.Limits.{maxDerived, minRecords}
 use Rattle.book.specs.Bytes.{varsIn, rulesIn}
 use Rattle.book.specs.Refusals.{Row, row, firstRow, admitRows}
@@ -146,7 +146,9 @@ same-check bytes o allowance l l′ p p′ e = go (firstRow (admitRows bytes o))
         ∙ sym (check-refused bytes o allowance l′ k (first-among (admitRows bytes o) (tableRows l′) k f))
     go none f =
         admitted-ran bytes o allowance l f p
-        ∙ ap (λ (places : ℕ). ran (run (varsIn bytes) (rulesIn bytes) o allowance places)) e
+        ∙ ap
+        (λ (places : ℕ). ran (outcome bytes o allowance (record { pos = places; neg = l .neg; decided = l .decided; trues = l .trues; redundant = l .redundant })))
+        e
         ∙ sym (admitted-ran bytes o allowance l′ f p′)
 
 -- ---- the numbers of refusals

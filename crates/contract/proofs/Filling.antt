@@ -28,7 +28,7 @@ use Rattle.contract.proofs.Checking.{ran-passed, runs, same-check}
 module _ (k : ℕ) (ws t : List ℕ) (e : length ws ≡ k) where
   -- the first k places hold the words
   first-written : take k (written ws t) ≡ ws
-  first-written = take-at ws (drop (length ws) t) k e
+  first-written = take-at ws _ k e
 
   -- the later ones are as they were
   later-written : drop k (written ws t) ≡ drop k t
@@ -111,7 +111,7 @@ module _ (bytes : List ℕ) (o : Assumptions) (allowance : ℕ) (l : Lengths) (r
       subst
       (Right (varsIn bytes) (rulesIn bytes) o)
       (sym (p .by-the-steps))
-      (demand2 (varsIn bytes) (rulesIn bytes) o (admitted-input bytes o (p .admitted)) allowance (l .pos))
+      (demand2 (varsIn bytes) (rulesIn bytes) o (admitted-input bytes o (p .admitted)) _ _)
 
   -- within the allowances
   pub ran-spent : Spent allowance (l .pos) r
@@ -120,7 +120,7 @@ module _ (bytes : List ℕ) (o : Assumptions) (allowance : ℕ) (l : Lengths) (r
       subst
       (Spent allowance (l .pos))
       (sym (p .by-the-steps))
-      (run-spent (varsIn bytes) (rulesIn bytes) o (admitted-input bytes o (p .admitted)) allowance (l .pos))
+      (run-spent (varsIn bytes) (rulesIn bytes) o (admitted-input bytes o (p .admitted)) _ _)
 
   -- at most 64 records
   pub ran-records : length (r .records) ≤ 64
