@@ -25,16 +25,17 @@ use Rattle.book.proofs.Conditions.{rules-decide, order-decides}
 use Rattle.book.proofs.Readings.{judged-book}
 use Rattle.book.proofs.Accepted.{rules-proper, FromBytes, bytes-book}
 use Rattle.book.proofs.RoundTrip.{read-written}
-use Rattle.answer.specs.Answer.{tallyOf, endOf, tallyIn}
+use Rattle.answer.specs.Answer.{tallyOf, endOf}
 use Rattle.answer.specs.Packed.{Packable}
 use Rattle.answer.specs.declared.Tally.{Tally}
 use Rattle.answer.specs.declared.Answer.the-variants.{Can, Cannot}
 use Rattle.answer.proofs.Ending.{tally-told, number-few}
 use Rattle.contract.specs.Check.{Lengths, Result, Result.refused, Result.ran, outcome, check}
 use Rattle.contract.specs.Filled.{answerOf}
-use Rattle.contract.specs.Demands.{answer, Permitted, Named, Answers, AnswersFit, LimitsPass, Tells, Outcomes, Settled, StopsOnBranchings, StopsOnPlaces, withPlaces, Buys, Demand3, StopsSpent, DerivedBegin, IsVerdict, Bound, Demands}
+use Rattle.contract.specs.Demands.{answer, Permitted, Named, Answers, AnswersFit, LimitsPass, Tells, Outcomes, Settled, StopsOnBranchings, StopsOnPlaces, withPlaces, Buys, DerivedBegin, IsVerdict, Bound, Demands}
 use Rattle.contract.proofs.Checking.{refusals, runs, numbered, ran-passed, admitted-ran}
 use Rattle.contract.proofs.Filling.{admitted-input, ran-right, ran-spent, ran-records, filling, untouched, no-part}
+use Rattle.contract.proofs.NeverCovered.{never-covered}
 
 -- ---- answers
 
@@ -266,6 +267,7 @@ demands =
       no-part = no-part;
       answers-fit = answers-fit;
       outcomes = outcomes;
+      never-covered = never-covered;
       buys = buys;
       stops-spent = ran-spent;
       derived-begin = derived-begin;

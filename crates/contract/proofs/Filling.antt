@@ -127,7 +127,7 @@ module _ (bytes : List ℕ) (o : Assumptions) (allowance : ℕ) (l : Lengths) (r
   ran-records = le-trans (ran-right .records .few) (none-admitted bytes o (ran-passed bytes o allowance l r e .admitted) .well-formed .vars-few)
 
 -- the tables after a check that was run
-ran-fills :
+pub ran-fills :
     (bytes : List ℕ) (o : Assumptions) (allowance : ℕ) (t : Tables) (r : Outcome) → check bytes o allowance (lengths t) ≡ ran r →
     Fills r t (filled (check bytes o allowance (lengths t)) t)
 ran-fills bytes o allowance t r e =

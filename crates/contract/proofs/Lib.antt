@@ -1,4 +1,5 @@
 -- The proofs of the demands on a check.
 pub mod Checking
 pub mod Filling
+pub mod NeverCovered
 pub mod Demands

@@ -3,15 +3,15 @@
 -- `refused k`, or `ran r` with the outcome r of the steps. The code's answer is `answerOf` of it, and its tables are `filled` by it. Bytes, words, allowance and
 -- lengths are any numbers. What the steps do, and what book and order mean, is said in crate `steps`; the conditions of the refusals in crate `book`.
 use mathlib.Core.Path.{_≡_}
-use mathlib.Core.List.{List, [], _∷_, _++_, map, List·Memᴰ}
+use mathlib.Core.List.{List, [], _∷_, _++_, map}
 use mathlib.Core.Logic.{_⊎_, _↔_}
 use Prim.Native.Nat.{ℕ, _-_, _^_, _≤_, _<_}
 use lib.ListN.{length, take, drop}
 use Rattle.steps.specs.Clause.{Clause, DSequent}
 use Rattle.steps.specs.State.{Ending.can, Ending.cannot, Ending.outOfBranchings, Ending.outOfClauses}
-use Rattle.steps.specs.Run.{Assumptions, Outcome, run}
+use Rattle.steps.specs.Run.{Assumptions, Outcome, given, run}
 use Rattle.steps.specs.Meaning.{Buildable}
-use Rattle.steps.specs.Demands.{Verdict, DerivedFollow, RecordsHold, Enough, Spent}
+use Rattle.steps.specs.Demands.{Verdict, DerivedFollow, RecordsHold, NoneCovers, Enough, Spent}
 use Rattle.book.specs.Bytes.{varsIn, rulesIn, encode}
 use Rattle.book.specs.Conditions.{Condition, condition, First, NoRow, ruleConditions, orderConditions, admitConditions}
 use Rattle.answer.specs.Answer.{tallyOf}
@@ -168,6 +168,30 @@ Outcomes =
     (bytes : List ℕ) (o : Assumptions) (allowance : ℕ) (l : Lengths) → NoRow (checkConditions bytes o l) →
     RightOutcome bytes o allowance l (varsIn bytes) (rulesIn bytes) (outcome bytes o allowance l)
 
+-- the rules in two tables, place by place
+abbrev pub rulesOf : List ℕ → List ℕ → List Clause
+rulesOf [] qs = []
+rulesOf (p ∷ ps) [] = []
+rulesOf (p ∷ ps) (q ∷ qs) = record { pos = p; neg = q } ∷ rulesOf ps qs
+
+-- the derived rules that are handed out, in the counted places
+abbrev pub derivedIn : Tally → Tables → List Clause
+derivedIn c t = let first : Tables = firstPlaces c t in rulesOf (first .pos) (first .neg)
+
+-- r is the outcome, and the tables hold what was handed out
+pub record Uncovered (bytes : List ℕ) (o : Assumptions) (r : Outcome) (tables : Tables) : Type 0 where
+  -- the derived rules in the tables are those of the outcome
+  pub handed-out : derivedIn (tallyOf r) tables ≡ r .derived
+  -- wherever c stands among them, no earlier rule covers it: none of the book, none of the order, and none of those before it
+  pub none-covers :
+      (before after : List Clause) (c : Clause) → derivedIn (tallyOf r) tables ≡ before ++ (c ∷ after) → NoneCovers (given (rulesIn bytes) o ++ before) c
+
+-- no derived rule is covered by an earlier rule of the table, whatever the allowance and the tables
+abbrev pub NeverCovered : Type 0
+NeverCovered =
+    (bytes : List ℕ) (o : Assumptions) (allowance : ℕ) (t : Tables) (r : Outcome) → check bytes o allowance (lengths t) ≡ ran r →
+    Uncovered bytes o r (filled (check bytes o allowance (lengths t)) t)
+
 -- ---- demand 3. An outcome is `ran r`: the verdict or named stop and the counts by `Tells`, the words in the counted places by `Fills`
 
 -- r is a verdict that book and order come to with some allowance and some tables
@@ -268,6 +292,7 @@ pub record Demands : Type 0 where
   pub answers-fit : AnswersFit
   -- demand 2
   pub outcomes : Outcomes
+  pub never-covered : NeverCovered
   -- demand 3
   pub buys : Demand3
   pub stops-spent : StopsSpent

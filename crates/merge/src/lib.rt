@@ -3,10 +3,9 @@ ghost use mathlib.Core.Path.{_≡_};
 ghost use mathlib.Core.Bool.{not};
 ghost use mathlib.Core.List.{List};
 ghost use Prim.Native.Nat.{ℕ};
-ghost use Rattle.steps.specs.Lists.{find};
 ghost use Rattle.steps.specs.Clause.{decide as Decide};
 ghost use Rattle.steps.specs.Enter.{falsifiedNaming};
-ghost use Rattle.steps.specs.Merge.{same, settle as Settle, learn as Learn, resolve as Resolve, join as Join, merge as Merge};
+ghost use Rattle.steps.specs.Merge.{cover, settle as Settle, learn as Learn, resolve as Resolve, join as Join, merge as Merge};
 ghost use Rattle.rows.specs.Values.{clauseOf, assignmentOf, envOf};
 ghost use Rattle.rows.specs.Rows.{clauses, stateOf};
 ghost use Rattle.merge.specs.Sides.{sideOf};
@@ -69,13 +68,13 @@ fn settle(rs: &mut [u64], e: Env, a: Assignment, c: Clause, s: Counts) -> Side
     Side::Up(state::append_falsified(rs, e, a, c, s))
 }
 
-// The clause that the table already holds serves, or else the new one is added.
+// The clause of the table that covers the new one serves, or else the new one is added.
 fn learn(t: &mut [u64], rs: &mut [u64], e: Env, a: Assignment, c: Clause, s: Counts) -> Side
     requires { ⌜ Resolvable (now t) (now rs) e s ⌝ }
-    ensures { λ r. ⌜ sideOf (now (t .exit)) (now (rs .exit)) r ≡ Learn (envOf e) (assignmentOf a) (stateOf (now (t .entry)) (now (rs .entry)) s) (clauseOf c) (find (same (clauseOf c)) (clauses (now (t .entry)) (s .clauses))) ⌝ }
+    ensures { λ r. ⌜ sideOf (now (t .exit)) (now (rs .exit)) r ≡ Learn (envOf e) (assignmentOf a) (stateOf (now (t .entry)) (now (rs .entry)) s) (clauseOf c) (cover (clauseOf c) (clauses (now (t .entry)) (s .clauses))) ⌝ }
 {
     let m = s.clauses;
-    let found = table::look_up(t, m, c);
+    let found = table::cover(t, m, c);
     if let Lookup::Found(d) = found {
         return settle(rs, e, a, d, s);
     }

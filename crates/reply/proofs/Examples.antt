@@ -6,7 +6,7 @@ use Rattle.steps.specs.Clause.{vars, keepers, satisfied, falsified, names, unde
 use Rattle.steps.specs.State.{undecided, live}
 use Rattle.steps.specs.Sweep.{allInactive, monotone, firstMonotone, sweep}
 use Rattle.steps.specs.Enter.{unit, swept, falsifiedNaming, enter}
-use Rattle.steps.specs.Merge.{same, resolvent, join, merge}
+use Rattle.steps.specs.Merge.{covers, resolvent, join, merge}
 use Rattle.steps.specs.Search.{step, search}
 use Rattle.steps.specs.Run.{units, finish, searched, run}
 use Rattle.book.specs.Bytes.{bytesOf, number, wordAt, wordsIn, pair, clausesIn, flat}
@@ -22,5 +22,5 @@ unfolding
     replyTo resultIn textOf check tablesFault firstRow above ruleRows bookRows orderRows admitRows bytesOf number wordAt wordsIn pair clausesIn flat
     outcomeText fields clauseLines recordLines decimal decimalUpTo
     minus meets firstOf lowest membersUpTo members ones onesIn vars keepers satisfied falsified names undecidedIn without undecided live
-    allInactive monotone firstMonotone sweep unit swept falsifiedNaming enter same resolvent join merge step search units finish searched run
+    allInactive monotone firstMonotone sweep unit swept falsifiedNaming enter covers resolvent join merge step search units finish searched run
 examples = record { documented = refl; nothing = refl; no-whole-order = refl; no-book = refl; faulty-order = refl }

@@ -12,6 +12,10 @@ use lib.Seq.{take-at, drop-append-add, drop-drop, drop-cons, set-split, append-s
 use Rattle.report.specs.Text.{Printed}
 use Rattle.report.specs.Write.{placed, Room, Wrote}
 
+-- what was printed is within the buffer
+pub printed-within : {text before after : List ℕ} {r : ℕ} → Printed text before after r → r ≤ length after
+printed-within {text} {before} p = omega (arith, p .size, ap length (p .bytes), length-append text (drop (length text) before))
+
 -- writing nothing changes nothing
 placed-nothing : (out : List ℕ) (at : ℕ) → placed out at [] ≡ out
 unfolding placed

@@ -1,7 +1,7 @@
 // What a clause is under a partial assignment: each function is its definition in `steps`.
 ghost use mathlib.Core.Path.{_≡_};
 ghost use Rattle.steps.specs.Clause.{literals as Literals, vars as Vars, keepers as Keepers, satisfied as Satisfied, falsified as Falsified, names as Names, undecidedIn, decide as Decide};
-ghost use Rattle.steps.specs.Merge.{same as Same, resolvent as Resolvent};
+ghost use Rattle.steps.specs.Merge.{covers as Covers, resolvent as Resolvent};
 ghost use Rattle.rows.specs.Values.{clauseOf, assignmentOf};
 
 // A rule.
@@ -44,14 +44,22 @@ pub fn satisfied(a: Assignment, c: Clause) -> bool
     keepers(a, c) != 0
 }
 
-// Broken: all variables are decided and all literals false.
+// d covers c: every literal of d is one of c.
+pub fn covers(d: Clause, c: Clause) -> bool
+    ensures { λ r. ⌜ r ≡ Covers (clauseOf d) (clauseOf c) ⌝ }
+{
+    (words::minus(d.pos, c.pos) | words::minus(d.neg, c.neg)) == 0
+}
+
+// Broken: all variables are decided and all literals false, so that it covers the clause of all false literals.
 pub fn falsified(a: Assignment, c: Clause) -> bool
     ensures { λ r. ⌜ r ≡ Falsified (assignmentOf a) (clauseOf c) ⌝ }
 {
-    if words::minus(vars(c), a.decided) != 0 {
-        return false;
-    }
-    keepers(a, c) == 0
+    let falses = Clause {
+        pos: words::minus(a.decided, a.trues),
+        neg: a.decided & a.trues,
+    };
+    covers(c, falses)
 }
 
 // The clause names a variable of k.
@@ -67,16 +75,6 @@ pub fn undecided_in(a: Assignment, c: Clause) -> u32
 {
     words::count_of(words::minus(c.pos, a.decided))
         + words::count_of(words::minus(c.neg, a.decided))
-}
-
-// The two clauses have the same literals.
-pub fn same(c: Clause, d: Clause) -> bool
-    ensures { λ r. ⌜ r ≡ Same (clauseOf c) (clauseOf d) ⌝ }
-{
-    if c.pos != d.pos {
-        return false;
-    }
-    c.neg == d.neg
 }
 
 // The two clauses joined, without v's literals.

@@ -5,7 +5,7 @@ ghost use lib.ListN.{length};
 ghost use Rattle.steps.specs.Lists.{any, find};
 ghost use Rattle.steps.specs.Clause.{falsified as Falsified};
 ghost use Rattle.steps.specs.Enter.{unit as Unit, falsifiedNaming};
-ghost use Rattle.steps.specs.Merge.{same};
+ghost use Rattle.steps.specs.Merge.{cover as Cover};
 ghost use Rattle.steps.specs.Search.{isEmpty};
 ghost use Rattle.rows.specs.Values.{clauseOf, assignmentOf, foundOf};
 ghost use Rattle.rows.specs.Rows.{clauseWords, clauseAt, clauses, putClause};
@@ -60,8 +60,8 @@ pub fn falsified_naming(t: &[u64], m: usize, v: u64, a: Assignment) -> Lookup
     let mut i = 0;
     while i < m {
         let c = clause_at(t, i);
-        if clause::names(v, c) {
-            if clause::falsified(a, c) {
+        if clause::falsified(a, c) {
+            if clause::names(v, c) {
                 return Lookup::Found(c);
             }
         }
@@ -86,15 +86,15 @@ pub fn unit_clause(t: &[u64], m: usize, a: Assignment, k: u64) -> Lookup
     Lookup::Nothing
 }
 
-// Step 7: which clause of the table the resolvent is, if it is there.
-pub fn look_up(t: &[u64], m: usize, c: Clause) -> Lookup
+// Step 7: the lowest-numbered clause of the table that covers c. The first one ends the walk.
+pub fn cover(t: &[u64], m: usize, c: Clause) -> Lookup
     requires { ⌜ clauseWords m ≤ length (now t) ⌝ }
-    ensures { λ r. ⌜ foundOf r ≡ find (same (clauseOf c)) (clauses (now (t .entry)) m) ⌝ }
+    ensures { λ r. ⌜ foundOf r ≡ Cover (clauseOf c) (clauses (now (t .entry)) m) ⌝ }
 {
     let mut i = 0;
     while i < m {
         let d = clause_at(t, i);
-        if clause::same(c, d) {
+        if clause::covers(d, c) {
             return Lookup::Found(d);
         }
         i += 1;
@@ -102,12 +102,12 @@ pub fn look_up(t: &[u64], m: usize, c: Clause) -> Lookup
     Lookup::Nothing
 }
 
-// Step 1: the table holds the empty clause.
+// Step 1: the table holds the empty clause, which alone covers the empty clause.
 pub fn holds_empty(t: &[u64], m: usize) -> bool
     requires { ⌜ clauseWords m ≤ length (now t) ⌝ }
     ensures { λ r. ⌜ r ≡ any isEmpty (clauses (now (t .entry)) m) ⌝ }
 {
-    let found = look_up(t, m, Clause { pos: 0, neg: 0 });
+    let found = cover(t, m, Clause { pos: 0, neg: 0 });
     match found {
         Lookup::Found(_) => true,
         Lookup::Nothing => false,

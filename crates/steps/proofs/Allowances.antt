@@ -29,7 +29,7 @@ finish-branchings n m (ended outOfBranchings d s) = refl
 finish-branchings n m (ended outOfClauses d s) = refl
 
 -- and the clauses that stand after the given ones
-finish-derived : (n m : ℕ) (x : Side) → finish n m x .derived ≡ drop m (at x .table)
+pub finish-derived : (n m : ℕ) (x : Side) → finish n m x .derived ≡ drop m (at x .table)
 unfolding finish
 finish-derived n m (up s) = refl
 finish-derived n m (ended can d s) = refl

@@ -56,8 +56,8 @@ adding e k s =
       listed = λ l p. let same = ap length (l .table) in ((omega arith, omega arith), omega arith);
       relisted = λ l p. let same = ap length (l .table) in (omega arith, omega arith);
       none-added = λ p. p .0;
-      clause-added = λ c t z l p. (p .0 .0, simp length-append (omega arith));
-      empty-added = λ c t z l p. (p .0 .0, simp length-append (omega arith));
+      clause-added = λ c t new z l p. (p .0 .0, simp length-append (omega arith));
+      empty-added = λ c t new z l p. (p .0 .0, simp length-append (omega arith));
       empty-found = λ t p. p .0;
       full = λ t l p. p;
     }

@@ -3,12 +3,15 @@
 use Rattle.steps.specs.Demands.{Demands}
 use Rattle.steps.proofs.Soundness.{demand2}
 use Rattle.steps.proofs.Examples.{joint, input, test-fails}
-use Rattle.steps.proofs.Marked.{marked-cases, further-cases}
+use Rattle.steps.proofs.Marked.{marked-cases, further-cases, covered-cases}
 use Rattle.steps.proofs.Allowances.{demand3, stops-spent, derived-begin}
 use Rattle.steps.proofs.Bound.{always-enough}
 use Rattle.steps.proofs.Nesting.{one-deeper, never-passes}
 use Rattle.steps.proofs.Sweeping.{sweep-tests, sweep-ends}
 use Rattle.steps.proofs.Parents.{never-deeper, parents-exist}
+use Rattle.steps.proofs.Covers.{covering}
+use Rattle.steps.proofs.Resolving.{resolving}
+use Rattle.steps.proofs.NeverCovered.{never-covered}
 
 pub demands : Demands
 demands =
@@ -27,6 +30,10 @@ demands =
       sweep-ends = sweep-ends;
       parents-exist = parents-exist;
       test-fails = test-fails;
+      covering = covering;
+      resolving = resolving;
+      never-covered = never-covered;
       marked-cases = marked-cases;
       further-cases = further-cases;
+      covered-cases = covered-cases;
     }

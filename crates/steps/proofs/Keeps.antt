@@ -1,19 +1,19 @@
 -- What each change of state keeps, the search keeps. The steps change the state in three ways only: another list of D-sequents, one branching counted
 -- while the allowance is not spent, one clause added while there is room. So where P is kept by these, and gives Q at each kind of end, a search from a
 -- state with P goes back up with P or ends with Q: one walk over the steps, and one induction over the depth.
-use mathlib.Core.Path.{_≡_}
+use mathlib.Core.Path.{_≡_, refl}
 use mathlib.Core.Bool.{Bool, true, false, not}
 use mathlib.Core.Option.{Option, some, none}
 use Prim.Native.Nat.{ℕ, zero, suc, _≤_, _<_}
 use borrow.Author.Tests.{ltb-true, ltb-false}
 use lib.Dec.{ltb}
 use lib.ListN.{length}
-use Rattle.steps.specs.Lists.{find, any}
+use Rattle.steps.specs.Lists.{any}
 use Rattle.steps.specs.Clause.{Clause, Assignment, decide, last, without}
 use Rattle.steps.specs.State.{Env, State, Ending, Ending.can, Ending.cannot, Ending.outOfBranchings, Ending.outOfClauses, Side, Side.up, Side.ended, Search, recorded, added, counted}
 use Rattle.steps.specs.Sweep.{monotone}
 use Rattle.steps.specs.Enter.{Turn, Turn.back, Turn.satisfiable, Turn.branch, falsifiedNaming, enter}
-use Rattle.steps.specs.Merge.{same, resolvent, settle, learn, resolve, mergeOn, join, merge}
+use Rattle.steps.specs.Merge.{cover, resolvent, settle, learn, resolve, mergeOn, join, merge}
 use Rattle.steps.specs.Search.{isEmpty, afterSecond, afterFirst, proceed, step, search}
 use Rattle.steps.proofs.Listed.{turned, taken, Listed, listed, listed-enter, listed-join}
 
@@ -29,8 +29,8 @@ pub record Merging (e : Env) (P R : State → Type 0) (Q : Ending → State → 
   pub listed : {s t : State} → Listed s t → P s → P t
   pub relisted : {s t : State} → Listed s t → R s → R t
   pub none-added : {s : State} → P s → R s
-  pub clause-added : (c : Clause) (s : State) → isEmpty c ≡ false → length (s .table) < e .capacity → P s → R (added c s)
-  pub empty-added : (c : Clause) (s : State) → isEmpty c ≡ true → length (s .table) < e .capacity → P s → Q cannot (added c s)
+  pub clause-added : (c : Clause) (s : State) → cover c (s .table) ≡ none → isEmpty c ≡ false → length (s .table) < e .capacity → P s → R (added c s)
+  pub empty-added : (c : Clause) (s : State) → cover c (s .table) ≡ none → isEmpty c ≡ true → length (s .table) < e .capacity → P s → Q cannot (added c s)
   pub empty-found : (s : State) → P s → Q cannot s
   pub full : (s : State) → e .capacity ≤ length (s .table) → P s → Q outOfClauses s
 
@@ -40,8 +40,8 @@ module _ {e : Env} {P R : State → Type 0} {Q : Ending → State → Type 0} (m
   keeps-settle a c s p = taken (Leaves R Q) (isEmpty c) _ _ (λ _. m .empty-found s p) (λ _. m .none-added (m .listed (listed _ s) p))
 
   -- the resolvent, from the table or added to it
-  keeps-learn : (a : Assignment) (s : State) (c : Clause) (d : Option Clause) → P s → Leaves R Q (learn e a s c d)
-  keeps-learn a s c none p =
+  keeps-learn : (a : Assignment) (s : State) (c : Clause) (d : Option Clause) → cover c (s .table) ≡ d → P s → Leaves R Q (learn e a s c d)
+  keeps-learn a s c none new p =
       taken
       (Leaves R Q)
       (ltb (length (s .table)) (e .capacity))
@@ -49,15 +49,15 @@ module _ {e : Env} {P R : State → Type 0} {Q : Ending → State → Type 0} (m
       _
       (λ l.
       let room = ltb-true _ _ l in
-      taken (Leaves R Q) (isEmpty c) _ _ (λ z. m .empty-added c s z room p) (λ z. m .relisted (listed _ (added c s)) (m .clause-added c s z room p)))
+      taken (Leaves R Q) (isEmpty c) _ _ (λ z. m .empty-added c s new z room p) (λ z. m .relisted (listed _ (added c s)) (m .clause-added c s new z room p)))
       (λ l. m .full s (ltb-false _ _ l) p)
-  keeps-learn a s c (some d) p = keeps-settle a d s p
+  keeps-learn a s c (some d) found p = keeps-settle a _ _ p
 
   -- where both its parents are there
   keeps-resolve : (a : Assignment) (v : ℕ) (s : State) (c d : Option Clause) → P s → Leaves R Q (resolve e a v s c d)
   keeps-resolve a v s none d p = m .none-added p
   keeps-resolve a v s (some c) none p = m .none-added p
-  keeps-resolve a v s (some c) (some d) p = keeps-learn a s (resolvent v c d) (find (same (resolvent v c d)) (s .table)) p
+  keeps-resolve a v s (some c) (some d) p = keeps-learn a s (resolvent v c d) _ refl p
 
   -- after the join
   keeps-mergeOn : (a : Assignment) (v : ℕ) (b : Bool) (s : State) (o : Option ℕ) → P s → Leaves R Q (mergeOn e a v b s o)

@@ -6,6 +6,7 @@ pub mod ShapeKeep
 pub mod Models
 pub mod Literals
 pub mod Resolvent
+pub mod Covers
 pub mod Monotone
 pub mod ShapeSweep
 pub mod Sweeping
@@ -34,6 +35,8 @@ pub mod LockstepGrows
 pub mod LockstepSpent
 pub mod Lockstep
 pub mod Allowances
+pub mod NeverCovered
+pub mod Resolving
 pub mod BoundSearch
 pub mod Bound
 pub mod Demands

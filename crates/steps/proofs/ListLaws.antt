@@ -2,7 +2,7 @@
 -- Each law is an induction on the list, by the test at its head.
 use mathlib.Core.Path.{_≡_, refl, sym, ap, _∙_}
 use mathlib.Core.Bool.{Bool, true, false, _||_, true≢false, false≢true}
-use mathlib.Core.List.{List, [], _∷_, List·Memᴰ, List·Memᴰ·head, List·Memᴰ·tail, List·Memᴰ·cases-cons, List·Memᴰ·not-nil}
+use mathlib.Core.List.{List, [], _∷_, _++_, List·Memᴰ, List·Memᴰ·head, List·Memᴰ·tail, List·Memᴰ·cases-cons, List·Memᴰ·not-nil}
 use mathlib.Core.Logic.{⊎-elim}
 use mathlib.Core.Option.{Option, some, none}
 use Rattle.words.proofs.Truth.{clash}
@@ -32,6 +32,18 @@ find-none {A} p (x ∷ xs) e a m = go (p x) refl e (find-none p xs) m
     go true t e below m = clash cc
     go false t e below (List·Memᴰ·head h) = ap p h ∙ t
     go false t e below (List·Memᴰ·tail m) = below e a m
+
+-- the first that passes is found
+pub find-first :
+    {A : Type 0} (p : A → Bool) (before after : List A) (x : A) → p x ≡ true → ((y : A) → List·Memᴰ y before → p y ≡ false) →
+    find p (before ++ (x ∷ after)) ≡ some x
+find-first p [] after x h f = rw (h, find) refl
+find-first p (y ∷ before) after x h f = rw (f y (List·Memᴰ·head refl), find) (find-first p before after x h (λ z m. f z (List·Memᴰ·tail m)))
+
+-- nothing is found where none passes
+pub none-found : {A : Type 0} (p : A → Bool) (t : List A) → ((y : A) → List·Memᴰ y t → p y ≡ false) → find p t ≡ none
+none-found p [] f = refl
+none-found p (y ∷ t) f = rw (f y (List·Memᴰ·head refl), find) (none-found p t (λ z m. f z (List·Memᴰ·tail m)))
 
 -- some element passes
 pub any-true : {A : Type 0} (p : A → Bool) (l : List A) → any p l ≡ true → (a : A) × List·Memᴰ a l × (p a ≡ true)

@@ -15,7 +15,7 @@ use Rattle.steps.specs.Clause.{Clause, Assignment, decide, last, without
 use Rattle.steps.specs.State.{Env, State, Ending.outOfBranchings, Ending.outOfClauses, Side, Side.up, Side.ended, Search, undecided, live, redundant, recorded, added, counted}
 use Rattle.steps.specs.Sweep.{Found, Found.nothing, Found.variable, firstMonotone, monotone, strike, sweepOn, sweep}
 use Rattle.steps.specs.Enter.{Turn, Turn.back, Turn.satisfiable, Turn.branch, unit, choose, swept, falsifiedNaming, conflict, enter}
-use Rattle.steps.specs.Merge.{same, resolvent, settle, learn, resolve, mergeOn, join, merge}
+use Rattle.steps.specs.Merge.{cover, resolvent, settle, learn, resolve, mergeOn, join, merge}
 use Rattle.steps.specs.Search.{afterSecond, afterFirst, proceed, isEmpty, step, search}
 use Rattle.steps.proofs.LockstepGrows.{at, Grows, grows-refl, grows-trans, longer, grows-settle, grows-added, grows-counted, GrowsAll, grows-afterSecond, grows-afterFirst, grows-search}
 
@@ -134,7 +134,7 @@ module _ (e : Env) (allowance capacity : ℕ) (more : e .allowance ≤ allowance
   lockstep-resolve : (a : Assignment) (v : ℕ) (s : State) (c d : Option Clause) → Lockstep e (resolve e a v s c d) (resolve e′ a v s c d)
   lockstep-resolve a v s none d = alike
   lockstep-resolve a v s (some c) none = alike
-  lockstep-resolve a v s (some c) (some d) = lockstep-learn a s (resolvent v c d) (find (same (resolvent v c d)) (s .table))
+  lockstep-resolve a v s (some c) (some d) = lockstep-learn a s (resolvent v c d) (cover (resolvent v c d) (s .table))
 
   -- step 7 after the join
   lockstep-mergeOn : (a : Assignment) (v : ℕ) (b : Bool) (s : State) (m : Option ℕ) → Lockstep e (mergeOn e a v b s m) (mergeOn e′ a v b s m)

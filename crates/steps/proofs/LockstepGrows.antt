@@ -75,8 +75,8 @@ growing e s =
             listed = λ l g. grows-trans g (grows-listed l);
             relisted = λ l g. grows-trans g (grows-listed l);
             none-added = λ g. g;
-            clause-added = λ c t z l g. grows-trans g (grows-added c t);
-            empty-added = λ c t z l g. grows-trans g (grows-added c t);
+            clause-added = λ c t new z l g. grows-trans g (grows-added c t);
+            empty-added = λ c t new z l g. grows-trans g (grows-added c t);
             empty-found = λ t g. g;
             full = λ t l g. g;
           };

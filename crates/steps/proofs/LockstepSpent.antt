@@ -43,8 +43,8 @@ fitting e =
             listed = fits-listed;
             relisted = fits-listed;
             none-added = λ f. f;
-            clause-added = λ c s z. fits-added e c s;
-            empty-added = λ c s z. fits-added e c s;
+            clause-added = λ c s new z. fits-added e c s;
+            empty-added = λ c s new z. fits-added e c s;
             empty-found = λ s f. f;
             full = λ s l f. (f, omega arith);
           };

@@ -33,8 +33,8 @@ staying e =
             listed = λ l f. ap (any isEmpty) (l .table) ∙ f;
             relisted = λ l f. ap (any isEmpty) (l .table) ∙ f;
             none-added = λ f. f;
-            clause-added = λ c s z l f. one-more (s .table) c f z;
-            empty-added = λ c s z l f. tt;
+            clause-added = λ c s new z l f. one-more (s .table) c f z;
+            empty-added = λ c s new z l f. tt;
             empty-found = λ s f. tt;
             full = λ s l f. tt;
           };

@@ -12,12 +12,11 @@ use borrow.Author.Tests.{eqb-true, eqb-false}
 use Rattle.words.specs.Words.{isZero, has, minus, meets, firstOf, Within}
 use Rattle.words.proofs.Truth.{both-ways, refuted}
 use Rattle.words.proofs.Sets.{within-trans, or-within, or-within-l, meets-false, minus-within, in-or, in-minus, minus-out, zero-meets}
-use Rattle.steps.specs.Lists.{find}
 use Rattle.steps.specs.Clause.{Clause, vars, Assignment, decide, DSequent, noDSequent, last, without}
 use Rattle.steps.specs.State.{Env, State, undecided, redundant, live, recorded, added}
 use Rattle.steps.specs.Sweep.{monotone}
 use Rattle.steps.specs.Enter.{falsifiedNaming}
-use Rattle.steps.specs.Merge.{same, resolvent, settle, learn, resolve, mergeOn, joinOn, join, merge}
+use Rattle.steps.specs.Merge.{cover, resolvent, settle, learn, resolve, mergeOn, joinOn, join, merge}
 use Rattle.steps.specs.Shape.{Proper, Shape, OneOf, SideShape}
 use Rattle.steps.proofs.Places.{decided-more, one-has}
 use Rattle.steps.proofs.ShapeLists.{last-has}
@@ -147,7 +146,7 @@ shape-learn :
     (e : Env) (a : Assignment) (s : State) (c : Clause) (k : ℕ) → has (live e a s) k ≡ true → Shape e a s → Proper (e .n) c → (o : Option Clause) →
     SideShape e a (learn e a s c o)
 unfolding live
-shape-learn e a s c k alive h p (some d) = shape-settle e a d s k alive h
+shape-learn e a s c k alive h p (some d) = shape-settle e a _ _ k alive h
 shape-learn e a s c k alive h p none = go (ltb (length (s .table)) (e .capacity)) refl
   where
     go : (z : Bool) → ltb (length (s .table)) (e .capacity) ≡ z → SideShape e a (learn e a s c none)
@@ -185,7 +184,7 @@ shape-merge e a w b r s h t on one = go (monotone a j w) refl
         (alive .member)
         point
         (resolvent-proper a w b c d (first .1) (second .1) (e .n) (point .clauses c (first .0)) (point .clauses d (second .0)))
-        (find (same (resolvent w c d)) (j .table))
+        (cover (resolvent w c d) (j .table))
 
     go : (o : Option ℕ) → monotone a j w ≡ o → SideShape e a (mergeOn e a w b j o)
     go (some x) f = shape-strike e a w x j point alive (monotone-within e a j w x point f)

@@ -1,28 +1,25 @@
 -- Step 7 is right: whatever it comes to, the table and the D-sequents stay sound. If the test for the branching's variable passes, that variable is
 -- struck as in the sweep. If it fails, both sides have a falsified clause, and their resolvent follows and is falsified here: an empty one shows that
 -- there is no model, and any other strikes every undecided variable.
-use mathlib.Core.Path.{_≡_, refl, ap, ap₂, _∙_, subst}
+use mathlib.Core.Path.{_≡_, refl, ap, _∙_}
 use mathlib.Core.Bool.{Bool, true, false, not}
 use mathlib.Core.List.{List, List·Memᴰ, List·Memᴰ·head, Memᴰ·append-right}
 use mathlib.Core.Option.{Option, some, none}
 use Prim.Native.Nat.{ℕ}
 use lib.Bits.{bitAnd, bitOr}
-use lib.Dec.{eqb, ltb}
+use lib.Dec.{ltb}
 use lib.ListN.{length}
-use borrow.Author.Tests.{eqb-true}
 use Rattle.words.specs.Words.{has, minus, isZero, Within}
-use Rattle.words.proofs.Truth.{and-left, and-right, clash}
+use Rattle.words.proofs.Truth.{clash}
 use Rattle.words.proofs.Sets.{within-antisym, or-within, or-within-l, or-within-r, minus-within, in-minus}
-use Rattle.steps.specs.Lists.{find}
 use Rattle.steps.specs.Clause.{Clause, vars, Assignment, decide, last}
 use Rattle.steps.specs.State.{Env, State, Ending, Ending.can, Ending.cannot, Ending.outOfBranchings, Ending.outOfClauses, Side, Side.up, Side.ended, undecided, redundant, added}
 use Rattle.steps.specs.Sweep.{monotone}
 use Rattle.steps.specs.Enter.{falsifiedNaming}
-use Rattle.steps.specs.Merge.{same, resolvent, settle, learn, resolve, mergeOn, join, merge}
+use Rattle.steps.specs.Merge.{cover, resolvent, settle, learn, resolve, mergeOn, join, merge}
 use Rattle.steps.specs.Search.{isEmpty}
 use Rattle.steps.specs.Shape.{Shape, OneOf}
 use Rattle.steps.proofs.Places.{one-within}
-use Rattle.steps.proofs.ListLaws.{find-some}
 use Rattle.steps.proofs.ShapeKeep.{last-recorded, undecided-free, append-redundant}
 use Rattle.steps.proofs.ShapeMerge.{join-redundant, shape-join}
 use Rattle.steps.proofs.Models.{Satisfied, Models}
@@ -32,6 +29,7 @@ use Rattle.steps.proofs.SoundSweep.{strike-sound}
 use Rattle.steps.proofs.SoundEnter.{Complete, falsified-sound}
 use Rattle.steps.proofs.SoundJoin.{join-sound}
 use Rattle.steps.proofs.Resolvent.{resolvent-falsified}
+use Rattle.steps.proofs.Covers.{cover-some, covers-falsified}
 use Rattle.steps.proofs.SoundResolve.{resolvent-follows}
 use Rattle.steps.proofs.Parents.{parent}
 
@@ -71,21 +69,13 @@ settle-sound t₀ e a c s sound m f = go (isZero (vars c)) refl
           complete = append-redundant a (bitAnd (vars c) (a .decided)) (undecided e a) s;
         })
 
--- clauses with the same literals are equal
-same-equal : (c d : Clause) → same c d ≡ true → c ≡ d
-unfolding same
-same-equal c d e =
-    ap₂ (λ (p q : ℕ). record { pos = p; neg = q })
-    (eqb-true (c .pos) (d .pos) (and-left (eqb (c .pos) (d .pos)) (eqb (c .neg) (d .neg)) e))
-    (eqb-true (c .neg) (d .neg) (and-right (eqb (c .pos) (d .pos)) (eqb (c .neg) (d .neg)) e))
-
--- and so does the resolvent, from the table or added to it
+-- and so does the resolvent: by the clause of the table that covers it, which is falsified too, or added to the table
 learn-sound :
     (t₀ : List Clause) (e : Env) (a : Assignment) (s : State) (c : Clause) → SoundState t₀ s → ((x : ℕ) → Models x (s .table) → Satisfied x c) → Falsified a c →
-    (o : Option Clause) → find (same c) (s .table) ≡ o → SideSound t₀ e a (learn e a s c o)
+    (o : Option Clause) → cover c (s .table) ≡ o → SideSound t₀ e a (learn e a s c o)
 learn-sound t₀ e a s c sound follows f (some d) g =
-    let found = find-some (same c) (s .table) d g in
-    settle-sound t₀ e a d s sound (found .0) (subst (Falsified a) (same-equal c d (found .1)) f)
+    let found = cover-some c (s .table) d g in
+    settle-sound t₀ e a _ _ sound (found .0) (covers-falsified a d c (found .1) f)
 learn-sound t₀ e a s c sound follows f none g = go (ltb (length (s .table)) (e .capacity)) refl
   where
     go : (p : Bool) → ltb (length (s .table)) (e .capacity) ≡ p → SideSound t₀ e a (learn e a s c none)
@@ -132,7 +122,7 @@ module _
         learn-sound t₀ e a j (resolvent w c d) sound
         (λ z m. resolvent-follows e a w one (shape .trues) b c d (x .1) (y .1) z (m c (x .0)) (m d (y .0)))
         (resolvent-falsified a w b c d (x .1) (y .1))
-        (find (same (resolvent w c d)) (j .table))
+        _
         refl
 
     -- by the test, or else by the resolvent

@@ -3,22 +3,22 @@
 -- rules and order name only options 1 to n, and no rule names one with both signs), and all allowances. `run n book o allowance places` is the outcome: its
 -- `ending`, how many `branchings`, the `derived` rules and the `records`.
 use mathlib.Core.Path.{_≡_}
-use mathlib.Core.Bool.{Bool, true, false}
-use mathlib.Core.List.{List, [], _++_, List·Memᴰ}
+use mathlib.Core.Bool.{Bool, true, false, not}
+use mathlib.Core.List.{List, [], _∷_, _++_, List·Memᴰ}
 use mathlib.Core.Logic.{_⊎_, _↔_}
 use mathlib.Core.Option.{some, none}
 use Prim.Native.Nat.{ℕ, suc, _+_, _-_, _^_, _≤_, _<_}
 use lib.Count.{ones}
 use lib.ListN.{length}
 use Rattle.words.specs.Words.{meets, firstOf, Within}
-use Rattle.steps.specs.Clause.{Clause, literals, Assignment, decide, inactive, DSequent, last}
-use Rattle.steps.specs.State.{Env, State, Ending, Ending.can, Ending.cannot, Ending.outOfBranchings, Ending.outOfClauses, redundant, live}
+use Rattle.steps.specs.Clause.{Clause, literals, vars, Assignment, decide, inactive, DSequent, last}
+use Rattle.steps.specs.State.{Env, State, Ending, Ending.can, Ending.cannot, Ending.outOfBranchings, Ending.outOfClauses, Side, Side.up, Side.ended, undecided, redundant, live, append, added}
 use Rattle.steps.specs.Sweep.{inactiveBy, monotone, sweep}
 use Rattle.steps.specs.Enter.{Turn.branch, falsifiedNaming, enter}
-use Rattle.steps.specs.Merge.{join}
+use Rattle.steps.specs.Merge.{covers, resolvent, join, merge}
 use Rattle.steps.specs.Search.{search}
 use Rattle.steps.specs.Run.{Assumptions, Outcome, given, noDecisions, start, run}
-use Rattle.steps.specs.Marked.{clause, sequent, order, Agree, C, P, Q, marked, further}
+use Rattle.steps.specs.Marked.{clause, sequent, order, Agree, C, P, Q, marked, further, covered}
 use Rattle.steps.specs.Reached.{Reached, Merges}
 use Rattle.steps.specs.Shape.{Input, Growing, Shape, OneOf}
 use Rattle.steps.specs.Meaning.{Buildable, Follows, Holds}
@@ -195,7 +195,7 @@ ParentsExist =
     let j : State = join e a w (last (x .records) .decisions .decided) y in
     monotone a j w ≡ none → (side : Bool) → (c : Clause) × (falsifiedNaming w (decide a w side) (j .table) ≡ some c)
 
--- and it does come to that: with C, the rules 1 and not 1, after the one branching
+-- and the test does fail: with C, the rules 1 and not 1, after the one branching
 pub record TestFails : Type 0 where
   pub first : State
   pub second : State
@@ -203,6 +203,45 @@ pub record TestFails : Type 0 where
   pub test :
       let e : Env = record { n = 1; allowance = 1; capacity = 3 } in
       monotone noDecisions (join e noDecisions 1 (last (first .records) .decisions .decided) second) 1 ≡ none
+
+-- d covers c exactly if every entry of d, of either sign, is one of c
+abbrev pub Covering : Type 0
+Covering = (d c : Clause) → (covers d c ≡ true) ↔ ((b : Bool) → Within (literals b d) (literals b c))
+
+-- no rule of the list covers c
+abbrev pub NoneCovers : List Clause → Clause → Type 0
+NoneCovers t c = (d : Clause) → List·Memᴰ d t → covers d c ≡ false
+
+-- what step 7 comes to with the resolved rule c, after the join j
+pub record Resolves (e : Env) (a : Assignment) (j : State) (c : Clause) (x : Side) : Type 0 where
+  -- where rules of the table cover c, and d is the lowest-numbered of them: nothing is added and nothing counted, be there a place or not. The record has the
+  -- decisions on the options of d, and all undecided options
+  pub covered :
+      (before after : List Clause) (d : Clause) → j .table ≡ before ++ (d ∷ after) → covers d c ≡ true → NoneCovers before c →
+      x ≡ up (append a (vars d) (undecided e a) j)
+  -- where none does, and no place is free: stop 11, with nothing changed
+  pub full : NoneCovers (j .table) c → e .capacity ≤ length (j .table) → x ≡ ended outOfClauses a j
+  -- where none does, and a place is free: c is added. If it is empty the run ends with "cannot", and else the record has the decisions on its options
+  pub empty : NoneCovers (j .table) c → length (j .table) < e .capacity → vars c ≡ 0 → x ≡ ended cannot a (added c j)
+  pub new : NoneCovers (j .table) c → length (j .table) < e .capacity → (vars c ≡ 0 → ⊥) → x ≡ up (append a (vars c) (undecided e a) (added c j))
+
+-- so it is wherever a run comes together and the test fails
+abbrev pub Resolving : Type 0
+Resolving =
+    (n : ℕ) (book : List Clause) (o : Assumptions) → Input n book o → (allowance capacity : ℕ) →
+    let e : Env = record { n = n; allowance = allowance; capacity = capacity } in
+    (a : Assignment) (w : ℕ) (b : Bool) (x y : State) → Merges e (given book o) a w b x y →
+    let r : ℕ = last (x .records) .decisions .decided in
+    let j : State = join e a w r y in
+    monotone a j w ≡ none → (c d : Clause) → falsifiedNaming w (decide a w b) (j .table) ≡ some c →
+    falsifiedNaming w (decide a w (not b)) (j .table) ≡ some d → Resolves e a j (resolvent w c d) (merge e a w b r y)
+
+-- no derived rule is covered by an earlier rule of the table, be it of the book, of the order or derived: in every run, whatever its allowances, wherever c stands
+-- among the derived rules
+abbrev pub NeverCovered : Type 0
+NeverCovered =
+    (n : ℕ) (book : List Clause) (o : Assumptions) (allowance places : ℕ) (before after : List Clause) (c : Clause) →
+    run n book o allowance places .derived ≡ before ++ (c ∷ after) → NoneCovers (given book o ++ before) c
 
 -- ---- cases
 
@@ -213,6 +252,10 @@ MarkedCases = Agree marked
 -- and further ones
 abbrev pub FurtherCases : Type 0
 FurtherCases = Agree further
+
+-- and ones in which a resolved rule is covered
+abbrev pub CoveredCases : Type 0
+CoveredCases = Agree covered
 
 -- ---- all of them
 
@@ -232,5 +275,9 @@ pub record Demands : Type 0 where
   pub sweep-ends : SweepEnds
   pub parents-exist : ParentsExist
   pub test-fails : TestFails
+  pub covering : Covering
+  pub resolving : Resolving
+  pub never-covered : NeverCovered
   pub marked-cases : MarkedCases
   pub further-cases : FurtherCases
+  pub covered-cases : CoveredCases

@@ -62,7 +62,7 @@ marked =
     (run 2 W (order 0 0) 2 3, out outOfBranchings 2 (clause 1 0 ∷ []) []) ∷
     (run 2 W (order 0 0) 3 0, out outOfClauses 2 [] []) ∷ []
 
--- cases 26, 50, 392, 397, 217, 14, 281, 236, 60, 195, 22, 319, 172, 145 and 47 of `tests/vectors/base.txt`, and then cases as `rust/port` gives them
+-- cases 26, 50, 392, 397, 217, 14, 281, 236, 60, 195, 22, 319, 172, 145 and 47 of `tests/vectors/p03.txt`, and then cases as `rust/port` gives them
 unfoldable pub further : List (Outcome × Outcome)
 further =
     (ample 0 (clause 0 0 ∷ clause 0 0 ∷ clause 0 0 ∷ clause 0 0 ∷ clause 0 0 ∷ []) (order 0 0), out cannot 0 [] []) ∷
@@ -112,3 +112,28 @@ further =
     (run 4 (clause 2 12 ∷ clause 13 2 ∷ clause 8 3 ∷ []) (order 0 0) 2 0, out can 2 [] (sequent 2 0 4 ∷ sequent 2 0 12 ∷ [])) ∷
     (run 3 (clause 2 5 ∷ clause 6 1 ∷ clause 1 2 ∷ []) (order 0 4) 2 1, out can 2 [] (sequent 1 0 2 ∷ [])) ∷
     (run 3 Q (order 0 0) 0 0, out outOfBranchings 0 [] []) ∷ []
+
+-- rules 2; 3 or not 1 or not 2; not 3; 3; 1. With 2 fitted, 3 left out and 1 undecided again, "3 or not 2" is resolved, and rule "3" covers it
+abbrev L : List Clause
+L = clause 2 0 ∷ clause 4 3 ∷ clause 0 4 ∷ clause 4 0 ∷ clause 1 0 ∷ []
+
+-- rules 1 or 2 or 3; not 1; 1; not 2; not 3; 2. Both "1" and "2" cover "1 or 2", which is resolved with 1 and 2 left out
+abbrev M : List Clause
+M = clause 7 0 ∷ clause 0 1 ∷ clause 1 0 ∷ clause 0 2 ∷ clause 0 4 ∷ clause 2 0 ∷ []
+
+-- runs in which a resolved rule is covered, as `rust/port` gives them
+unfoldable pub covered : List (Outcome × Outcome)
+covered =
+    -- it is left out, and one place is enough for the verdict
+    (run 3 L (order 0 0) 3 1, out cannot 3 (clause 0 0 ∷ []) (sequent 0 0 7 ∷ [])) ∷
+    -- with no place it is no stop either: stop 11 is that of the empty rule. The record has nothing of option 2, which "3 or not 2" names and "3" does not
+    (run 3 L (order 0 0) 3 0, out outOfClauses 3 [] (sequent 0 0 1 ∷ [])) ∷
+    -- covered by the order's rule "3"
+    (run 3 (clause 2 0 ∷ clause 4 3 ∷ clause 0 4 ∷ clause 1 0 ∷ []) (order 4 0) 3 1, out cannot 3 (clause 0 0 ∷ []) (sequent 0 0 7 ∷ [])) ∷
+    -- of two rules that cover, the lowest-numbered has its decisions in the record
+    (run 3 M (order 0 0) 3 0, out outOfClauses 3 [] (sequent 1 0 4 ∷ [])) ∷
+    -- "1 or not 4" is covered by the derived rule "1", with every place taken
+    (
+      run 4 (clause 8 0 ∷ clause 5 8 ∷ clause 1 4 ∷ clause 3 0 ∷ clause 1 2 ∷ clause 0 3 ∷ []) (order 0 0) 4 1,
+      out can 4 (clause 1 0 ∷ []) (sequent 1 1 2 ∷ sequent 1 1 6 ∷ []),
+    ) ∷ []

@@ -1,5 +1,6 @@
 -- Step 7: coming together after both sides of a branching, its variable undecided again.
 use mathlib.Core.Bool.{Bool, true, false, not, _&&_}
+use mathlib.Core.List.{List}
 use mathlib.Core.Option.{Option, some, none}
 use Prim.Native.Nat.{ℕ}
 use lib.Bits.{bitOr}
@@ -21,9 +22,13 @@ joinOn e a v r t =
 unfoldable pub join : Env → Assignment → ℕ → ℕ → State → State
 join e a v r s = joinOn e a v (bitOr r (last (s .records) .decisions .decided)) (recorded (without v (s .records)) s)
 
--- the two clauses have the same literals
-unfoldable pub same : Clause → Clause → Bool
-same c d = eqb (c .pos) (d .pos) && eqb (c .neg) (d .neg)
+-- d covers c: every literal of d is one of c
+unfoldable pub covers : Clause → Clause → Bool
+covers d c = isZero (minus (d .pos) (c .pos)) && isZero (minus (d .neg) (c .neg))
+
+-- the lowest-numbered clause of the table that covers c
+abbrev pub cover : Clause → List Clause → Option Clause
+cover c t = find (λ d. covers d c) t
 
 -- the two clauses joined, without v's literals
 unfoldable pub resolvent : ℕ → Clause → Clause → Clause
@@ -33,7 +38,7 @@ resolvent v c d = record { pos = minus (bitOr (c .pos) (d .pos)) v; neg = minus 
 abbrev pub settle : Env → Assignment → Clause → State → Side
 settle e a c s = elim (isZero (vars c)) [ true ↦ ended cannot a s | false ↦ up (appendFalsified e a c s) ]
 
--- the clause that the table already holds serves, or else the new one is added, with stop 11
+-- the clause of the table that covers the new one serves, or else the new one is added, with stop 11
 abbrev pub learn : Env → Assignment → State → Clause → Option Clause → Side
 learn e a s c (some d) = settle e a d s
 learn e a s c none = elim (ltb (length (s .table)) (e .capacity)) [ false ↦ ended outOfClauses a s | true ↦ settle e a c (added c s) ]
@@ -42,7 +47,7 @@ learn e a s c none = elim (ltb (length (s .table)) (e .capacity)) [ false ↦ en
 abbrev pub resolve : Env → Assignment → ℕ → State → Option Clause → Option Clause → Side
 resolve e a v s none d = up s
 resolve e a v s (some c) none = up s
-resolve e a v s (some c) (some d) = learn e a s (resolvent v c d) (find (same (resolvent v c d)) (s .table))
+resolve e a v s (some c) (some d) = learn e a s (resolvent v c d) (cover (resolvent v c d) (s .table))
 
 -- the test of step 3 passes for v, or else the lowest-numbered clauses that name v and are falsified on the two sides are resolved
 abbrev pub mergeOn : Env → Assignment → ℕ → Bool → State → Option ℕ → Side

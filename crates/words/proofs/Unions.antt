@@ -24,6 +24,11 @@ or-nonzero (suc x) y =
     let m = some-member (suc x) refl in
     ap not (member-nonzero (bitOr (suc x) y) (m .0) (or-within-l (suc x) y (m .0) (m .1)))
 
+-- and none where neither has
+pub or-empty : (x y : ℕ) → isZero (bitOr x y) ≡ (isZero x && isZero y)
+or-empty zero y = ap isZero (or-zero-l y)
+or-empty (suc x) y = let m = some-member (suc x) refl in member-nonzero (bitOr (suc x) y) (m .0) (or-within-l (suc x) y (m .0) (m .1))
+
 -- a union meets what one of its words meets
 pub or-meets : (x y w : ℕ) → meets (bitOr x y) w ≡ (meets x w || meets y w)
 unfolding meets

@@ -1,5 +1,6 @@
 //! Generated cases through the checker under test and through the port, the whole printed outcome
 //! compared; each verdict also through an outside solver, and on small books by trying all choices.
+//! No derived rule may be covered by an earlier one.
 
 use crate::choices;
 use crate::hex::hex;
@@ -7,8 +8,8 @@ use crate::kinds::{self, Case, Kind, KINDS};
 use crate::question::{first_difference, Check};
 use crate::under_test::UnderTest;
 use optbook::bytes::read_input;
-use optbook::{Book, Order};
-use port::{Ending, Places};
+use optbook::{Book, Order, OPTIONS};
+use port::{Ending, Places, Rule};
 use std::collections::BTreeMap;
 use std::fmt::Write;
 
@@ -23,6 +24,7 @@ pub struct Tally {
     pub not_taken: usize,
     pub solved_outside: usize,
     pub tried_all_choices: usize,
+    pub not_covered: usize,
 }
 
 /// Runs this many generated books; the first difference ends it and is told in words.
@@ -69,6 +71,7 @@ fn compare(
     if let Ending::Verdict(can) = outcome.ending {
         confirm(outside, &check.input, can, tally)?;
     }
+    tally.not_covered += not_covered(&check.input, &outcome.derived)?;
     tally.add(case.kind, outcome.ending);
     Ok(())
 }
@@ -99,6 +102,29 @@ fn confirm(outside: Outside, input: &[u8], can: bool, tally: &mut Tally) -> Resu
         tally.tried_all_choices += 1;
     }
     Ok(())
+}
+
+/// How many derived rules there are, of which no earlier rule, of the book, of the order or derived,
+/// may have all its entries among theirs.
+fn not_covered(input: &[u8], derived: &[Rule]) -> Result<usize, String> {
+    if derived.is_empty() {
+        return Ok(0);
+    }
+    let (order, book) = read_input(input)?;
+    let mut earlier: Vec<(u64, u64)> =
+        book.rules.iter().map(|rule| (rule.fitted, rule.left_out)).collect();
+    for option in (0..OPTIONS).map(optbook::option) {
+        earlier.push((order.wanted & option, order.unwanted & option));
+    }
+    earlier.retain(|&rule| rule != (0, 0));
+    for &Rule { fitted, left_out } in derived {
+        let among = |&&(f, l): &&(u64, u64)| f & fitted == f && l & left_out == l;
+        if let Some((f, l)) = earlier.iter().find(among) {
+            return Err(format!("derived rule {fitted} {left_out} is covered by rule {f} {l}"));
+        }
+        earlier.push((fitted, left_out));
+    }
+    Ok(derived.len())
 }
 
 fn word_of(can: bool) -> &'static str {
@@ -166,6 +192,7 @@ impl Tally {
         let _ = writeln!(text, "outcomes compared: {}", self.compared);
         let _ = writeln!(text, "verdicts by the outside solver too: {}", self.solved_outside);
         let _ = writeln!(text, "verdicts by trying all choices too: {}", self.tried_all_choices);
+        let _ = writeln!(text, "derived rules that no earlier one covers: {}", self.not_covered);
         if self.not_taken > 0 {
             let _ = writeln!(text, "cases that the checker has no way to take: {}", self.not_taken);
         }
@@ -250,6 +277,25 @@ mod tests {
     fn an_outside_solver_that_disagrees_ends_the_run() {
         let difference = run_made(|o| o.to_string(), &|_, _| Ok(true)).err().unwrap();
         assert!(difference.contains("the outside solver's is not"), "{difference}");
+    }
+
+    #[test]
+    fn a_derived_rule_that_an_earlier_one_covers_is_told() {
+        let book = Book { options: 3, rules: vec![optbook::Rule { fitted: 1, left_out: 4 }] };
+        let order = Order { wanted: 2, unwanted: 1 };
+        let input = optbook::bytes::input_bytes(order, &optbook::bytes::book_bytes(&book));
+        let of = |rules: &[(u64, u64)]| {
+            let derived: Vec<Rule> =
+                rules.iter().map(|&(fitted, left_out)| Rule { fitted, left_out }).collect();
+            not_covered(&input, &derived)
+        };
+        assert_eq!(of(&[(5, 0), (1, 0)]), Ok(2));
+        let told = |by: &str| Err(format!("derived rule 5 0 is covered by rule {by}"));
+        assert_eq!(of(&[(1, 0), (5, 0)]), told("1 0"));
+        assert_eq!(of(&[(5, 0), (5, 0)]), told("5 0"));
+        assert!(of(&[(1, 4)]).is_err());
+        assert!(of(&[(6, 0)]).unwrap_err().ends_with("is covered by rule 2 0"));
+        assert!(of(&[(0, 5)]).unwrap_err().ends_with("is covered by rule 0 1"));
     }
 
     #[test]

@@ -6,6 +6,7 @@ mod allowances;
 mod bench;
 mod choices;
 mod differential;
+mod framed;
 mod hex;
 mod kinds;
 #[cfg(any(test, feature = "proved"))]
@@ -32,6 +33,8 @@ compare vectors FILE... [--program PATH]
     the cases of these files through the checker and the port
 compare allowances
     small books with every allowance and number of places through the checker and the port
+compare framed FILE FOLDER
+    the program's cases of a file as the test program `vectors` reads and writes them, in FOLDER
 compare bench [--seed S] [--solver NAME]
     the same books through the checker, the port and an outside solver, as a table
 
@@ -59,12 +62,13 @@ fn main() {
     let mut words = env::args().skip(1);
     let command = words.next().unwrap_or_default();
     let Some(words) = read_words(words) else { usage() };
-    if words.files.is_empty() == (command == "vectors") {
+    if words.files.is_empty() == ["vectors", "framed"].contains(&command.as_str()) {
         usage();
     }
     let done = match command.as_str() {
         "differential" => differential(&words),
         "vectors" => vectors(&words),
+        "framed" => framed(&words),
         "allowances" => allowances(),
         "bench" => bench(&words),
         _ => usage(),
@@ -133,6 +137,16 @@ fn vectors(words: &Words) -> Result<(), String> {
         true => Ok(()),
         false => Err(format!("cases that differ: {}", differ.join(", "))),
     }
+}
+
+/// Writes the files `stdin` and `stdout` of the test program.
+fn framed(words: &Words) -> Result<(), String> {
+    let [file, folder] = words.files.as_slice() else { usage() };
+    let text = fs::read_to_string(file).map_err(|error| format!("{file}: {error}"))?;
+    let framed = framed::framed(&text).map_err(|what| format!("{file}: {what}"))?;
+    fs::write(format!("{folder}/stdin"), framed.stdin)
+        .and_then(|()| fs::write(format!("{folder}/stdout"), framed.stdout))
+        .map_err(|error| format!("{folder}: {error}"))
 }
 
 fn allowances() -> Result<(), String> {

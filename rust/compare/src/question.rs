@@ -20,6 +20,13 @@ impl Check {
         Check { input, places, allowance: PROGRAM_ALLOWANCE }
     }
 
+    /// The places and the allowance are the program's own.
+    pub fn is_of_program(&self) -> bool {
+        self.allowance == PROGRAM_ALLOWANCE
+            && self.places.derived == [PROGRAM_PLACES; 2]
+            && self.places.records == [PROGRAM_RECORD_PLACES; 3]
+    }
+
     /// The same input with other limits.
     pub fn with_limits(&self, places: Places, allowance: u32) -> Check {
         Check { places, allowance, input: self.input.clone() }

@@ -11,8 +11,9 @@ pub struct Small {
 }
 
 /// No options, the empty rule, one option, rules that contradict each other; the marked Q and W;
-/// all rules of three and of four options; and four cases of tests/vectors/base.txt.
-pub const SMALL: [Small; 19] = [
+/// all rules of three and of four options; four cases of tests/vectors/p03.txt; and books with a
+/// resolved rule that one rule covers, that two rules cover, and that a derived rule covers.
+pub const SMALL: [Small; 22] = [
     small("no options", 0, &[], (0, 0), "can 0 0 0 0"),
     small("the empty rule of no options", 0, &[(0, 0)], (0, 0), "cannot 0 0 0 0"),
     small("the empty rule and an order", 3, &[(0, 0)], (1, 4), "cannot 0 0 0 1"),
@@ -32,6 +33,9 @@ pub const SMALL: [Small; 19] = [
     small("case 47", 4, CASE_47, (0, 0), "cannot 0 6 4 1"),
     small("case 357, wanted 4", 3, CASE_357, (4, 0), "can 0 3 1 1"),
     small("case 7, wanted 16", 5, CASE_7, (16, 0), "can 0 5 2 2"),
+    small("covered once", 3, COVERED_ONCE, (0, 0), "cannot 0 3 1 1"),
+    small("covered twice", 3, COVERED_TWICE, (0, 0), "cannot 0 3 1 1"),
+    small("covered by a derived rule", 4, COVERED_LATER, (0, 0), "can 0 4 1 2"),
 ];
 
 const fn small(
@@ -73,3 +77,9 @@ const CASE_7: &[(u64, u64)] = &[
     (9, 2), (0, 7), (25, 0), (0, 13), (16, 5), (16, 6), (14, 0), (2, 0), (2, 24), (24, 4), (9, 16),
     (3, 4), (7, 0), (20, 2), (5, 8), (1, 20), (1, 12), (16, 10), (14, 0), (10, 1),
 ];
+
+const COVERED_ONCE: &[(u64, u64)] = &[(2, 0), (4, 3), (0, 4), (4, 0), (1, 0)];
+
+const COVERED_TWICE: &[(u64, u64)] = &[(7, 0), (0, 1), (1, 0), (0, 2), (0, 4), (2, 0)];
+
+const COVERED_LATER: &[(u64, u64)] = &[(8, 0), (5, 8), (1, 4), (3, 0), (1, 2), (0, 3)];

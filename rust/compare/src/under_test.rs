@@ -2,7 +2,6 @@
 //! proved static library (library.rs), and the port.
 
 use crate::question::Check;
-use port::{PROGRAM_ALLOWANCE, PROGRAM_PLACES, PROGRAM_RECORD_PLACES};
 use std::io::{ErrorKind, Write};
 use std::process::{Command, Stdio};
 
@@ -46,9 +45,7 @@ impl UnderTest for Program {
 
     /// A program has its own places and allowance.
     fn takes(&self, check: &Check) -> bool {
-        check.allowance == PROGRAM_ALLOWANCE
-            && check.places.derived == [PROGRAM_PLACES; 2]
-            && check.places.records == [PROGRAM_RECORD_PLACES; 3]
+        check.is_of_program()
     }
 
     fn printed(&mut self, check: &Check) -> Result<String, String> {

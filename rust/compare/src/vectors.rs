@@ -83,6 +83,15 @@ pub fn run(tested: &mut [Box<dyn UnderTest>], text: &str) -> Result<(Score, Stri
     Ok((score, told))
 }
 
+/// The cases of a file whose question is standard input of the program: the input and the answer.
+pub fn program_cases(text: &str) -> Result<Vec<(Vec<u8>, String)>, String> {
+    let of_program = |vector: Vector| match vector.question {
+        Question::Check(check) if check.is_of_program() => Some((check.input, vector.answer)),
+        _ => None,
+    };
+    Ok(read(text)?.into_iter().filter_map(of_program).collect())
+}
+
 /// The cases of a file, of which there is one at least.
 fn read(text: &str) -> Result<Vec<Vector>, String> {
     let mut vectors = Vec::new();
@@ -239,7 +248,7 @@ mod tests {
     #[test]
     fn the_stored_cases_agree_through_the_port() {
         let folder = concat!(env!("CARGO_MANIFEST_DIR"), "/../../tests/vectors");
-        for (file, cases) in [("base.txt", 419), ("reading.txt", 378)] {
+        for (file, cases) in [("p03.txt", 419), ("reading.txt", 378)] {
             let text = std::fs::read_to_string(format!("{folder}/{file}")).unwrap();
             let (score, told) = through_the_port(&text).unwrap();
             assert_eq!(score, Score { agree: cases, ..Score::default() }, "{file}: {told}");

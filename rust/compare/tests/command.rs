@@ -12,7 +12,7 @@ fn said(output: &Output) -> String {
 }
 
 fn vectors() -> String {
-    let path = Path::new(env!("CARGO_MANIFEST_DIR")).join("../../tests/vectors/base.txt");
+    let path = Path::new(env!("CARGO_MANIFEST_DIR")).join("../../tests/vectors/p03.txt");
     path.to_str().unwrap().to_string()
 }
 

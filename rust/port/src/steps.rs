@@ -122,7 +122,8 @@ impl Run {
             return Left::Up;
         }
         let rule = self.resolved(v, sides);
-        if !self.table.contains(&rule) {
+        let covering = self.table.iter().find(|earlier| earlier.covers(rule)).copied();
+        if covering.is_none() {
             if self.table.len() - self.given == self.places {
                 return Left::End(Ending::Stopped(11));
             }
@@ -131,7 +132,8 @@ impl Run {
                 return Left::End(self.end_with_cannot());
             }
         }
-        self.append(decisions.on(rule.options()), self.undecided(decisions));
+        let options = covering.unwrap_or(rule).options();
+        self.append(decisions.on(options), self.undecided(decisions));
         Left::Up
     }
 

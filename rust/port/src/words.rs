@@ -56,6 +56,11 @@ impl Rule {
         self.options() & !decisions.decided == 0 && !self.is_kept(decisions)
     }
 
+    /// All entries of the rule are among the other's.
+    pub fn covers(self, other: Rule) -> bool {
+        self.fitted & !other.fitted == 0 && self.left_out & !other.left_out == 0
+    }
+
     /// The rule is kept or names a struck option.
     pub fn is_out(self, decisions: Decisions, struck: u64) -> bool {
         self.options() & struck != 0 || self.is_kept(decisions)
@@ -117,6 +122,16 @@ mod tests {
         assert!(rule(1, 0).is_broken(d));
         assert!(!rule(3, 0).is_broken(d));
         assert!(rule(0, 1).is_kept(d));
+    }
+
+    #[test]
+    fn a_rule_covers_what_has_all_its_entries() {
+        assert!(rule(1, 4).covers(rule(3, 4)));
+        assert!(rule(1, 4).covers(rule(1, 4)));
+        assert!(rule(0, 0).covers(rule(0, 0)));
+        assert!(!rule(3, 4).covers(rule(1, 4)));
+        assert!(!rule(1, 0).covers(rule(0, 1)));
+        assert!(!rule(0, 1).covers(rule(1, 2)));
     }
 
     #[test]

@@ -1,20 +1,19 @@
--- `merge::learn` meets its contract. The look-up is the definition's; where it finds nothing, the test of the count against the capacity is the
--- definition's on the length of the table, and the two words stored after the last clause are the clause that the definition adds (`add-at-end`).
+-- `merge::learn` meets its contract. The clause that is found to cover is the definition's. Where none is, the test of the count against the capacity is
+-- the definition's on the length of the table, and the two words stored after the last clause are the clause that the definition adds (`put-clause-at-end`).
 -- Assumes nothing.
 use mathlib.Core.Path.{_≡_, ap, sym, _∙_}
 use mathlib.Core.Bool.{true, false}
 use mathlib.Core.List.{List}
 use mathlib.Core.Option.{Option, none}
-use Prim.Native.Nat.{ℕ, _+_, _*_, _≤_, _<_}
+use Prim.Native.Nat.{ℕ, _+_, _≤_, _<_}
 use native.Mathlib.Omega.{arith}
 use lib.Dec.{ltb}
 use lib.ListN.{length}
 use borrow.Author.Needs.{needs}
 use borrow.Author.Tests.{le-ltb, lt-ltb}
-use Rattle.steps.specs.Lists.{find}
 use Rattle.steps.specs.Clause.{Clause}
 use Rattle.steps.specs.State.{added}
-use Rattle.steps.specs.Merge.{same, settle, learn}
+use Rattle.steps.specs.Merge.{cover, settle, learn}
 use Rattle.rows.specs.Values.{clauseOf, assignmentOf, envOf, foundOf}
 use Rattle.rows.specs.Rows.{clauses, stateOf, clauseWords}
 use Rattle.words.proofs.Truth.{when-true, when-false}
@@ -22,23 +21,23 @@ use Rattle.rows.proofs.Tables.{clauses-length, put-clause-at-end}
 use Rattle.merge.proofs.learn.Statement.{statement}
 use Rattle.merge.proofs.learn.Tie as tie
 
--- what the code's look-up finds decides as the definition's does
-decided : (c : tie.After-look-up) (o : Option Clause)
-    → o ≡ foundOf (c .look-up .result)
+-- what the code's cover finds decides as the definition's does
+decided : (c : tie.After-cover) (o : Option Clause)
+    → o ≡ foundOf (c .cover .result)
     → let x = c .before .before .before .before .args in
     let s = stateOf (x .t .now) (x .rs .now) (x .s) in
     learn (envOf (x .e)) (assignmentOf (x .a)) s (clauseOf (x .c)) o
-    ≡ learn (envOf (x .e)) (assignmentOf (x .a)) s (clauseOf (x .c)) (find (same (clauseOf (x .c))) (s .table))
+    ≡ learn (envOf (x .e)) (assignmentOf (x .a)) s (clauseOf (x .c)) (cover (clauseOf (x .c)) (s .table))
 decided c o is =
     let x = c .before .before .before .before .args in
-    ap (learn (envOf (x .e)) (assignmentOf (x .a)) (stateOf (x .t .now) (x .rs .now) (x .s)) (clauseOf (x .c))) (is ∙ c .look-up .ensures)
+    ap (learn (envOf (x .e)) (assignmentOf (x .a)) (stateOf (x .t .now) (x .rs .now) (x .s)) (clauseOf (x .c))) (is ∙ c .cover .ensures)
 
 -- there is room for a clause of number m below the capacity k
 next : (m k l : ℕ) → m < k → clauseWords k ≤ l → clauseWords (m + 1) ≤ l
 next m k l h f = omega arith
 
-look-up-requires : tie.Need-look-up-requires
-look-up-requires c κs = search needs
+cover-requires : tie.Need-cover-requires
+cover-requires c κs = search needs
 
 enum-known-found : tie.Need-enum-known-found
 enum-known-found c = search needs
@@ -117,7 +116,7 @@ pub learn-spec : {M : Type 1} → statement M
 learn-spec =
     tie.close
     (tie.spec
-    look-up-requires
+    cover-requires
     enum-known-found
     settle-requires
     same-length

@@ -4,10 +4,9 @@ use mathlib.Core.Path.{_≡_, ap, ap₂, sym, _∙_}
 use mathlib.Core.Bool.{not}
 use mathlib.Core.Option.{Option}
 use borrow.Author.Needs.{needs}
-use Rattle.steps.specs.Lists.{find}
 use Rattle.steps.specs.Clause.{Clause, Assignment, decide}
 use Rattle.steps.specs.Enter.{falsifiedNaming}
-use Rattle.steps.specs.Merge.{same, learn, resolve}
+use Rattle.steps.specs.Merge.{cover, learn, resolve}
 use Rattle.rows.specs.Values.{assignmentOf, envOf, foundOf}
 use Rattle.rows.specs.Rows.{clauses, stateOf}
 use Rattle.merge.proofs.resolve.Statement.{statement}
@@ -99,7 +98,7 @@ returns-3 c =
     c .before .before .before .before .learn .ensures
     ∙
     (ap
-    (λ (r : Clause). learn (envOf (x .e)) (assignmentOf (x .a)) s r (find (same r) (s .table)))
+    (λ (r : Clause). learn (envOf (x .e)) (assignmentOf (x .a)) s r (cover r (s .table)))
     (c .before .before .before .before .before .resolvent .ensures)
     ∙
     ap₂

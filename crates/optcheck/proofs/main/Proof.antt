@@ -1,18 +1,10 @@
 -- `optcheck::main` meets its contract: the reply is within its buffer, since it stands at the buffer's start. Assumes nothing.
-use mathlib.Core.Path.{sym, ap}
-use mathlib.Core.List.{List}
-use Prim.Native.Nat.{ℕ, _≤_}
-use native.Mathlib.Omega.{arith}
-use lib.ListN.{length, drop, length-append}
+use mathlib.Core.Path.{sym}
 use lib.Seq.{length-take-le}
-use Rattle.report.specs.Text.{Printed}
+use Rattle.report.proofs.Writing.{printed-within}
 use borrow.Author.Needs.{needs}
 use Rattle.optcheck.proofs.main.Statement.{statement}
 use Rattle.optcheck.proofs.main.Tie as tie
-
--- what was printed is within the buffer
-within : {text before after : List ℕ} {r : ℕ} → Printed text before after r → r ≤ length after
-within {text} {before} p = omega (arith, p .size, ap length (p .bytes), length-append text (drop (length text) before))
 
 input-buffer-requires : tie.Need-input-buffer-requires
 input-buffer-requires c κs = search needs
@@ -39,10 +31,10 @@ respond-requires : tie.Need-respond-requires
 respond-requires c κs = search needs
 
 array-share-prefix-text : tie.Need-array-share-prefix-text
-array-share-prefix-text c = within (c .before .respond .ensures)
+array-share-prefix-text c = printed-within (c .before .respond .ensures)
 
 slice-aggregate-write-all : tie.Need-slice-aggregate-write-all
-slice-aggregate-write-all c = sym (length-take-le (c .before .before .respond .result) (c .before .before .respond .last .1 .0) (within (c .before .before .respond .ensures)))
+slice-aggregate-write-all c = sym (length-take-le (c .before .before .respond .result) (c .before .before .respond .last .1 .0) (printed-within (c .before .before .respond .ensures)))
 
 write-all-requires : tie.Need-write-all-requires
 write-all-requires c κs = search needs

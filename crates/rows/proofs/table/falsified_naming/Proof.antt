@@ -1,9 +1,9 @@
 -- `rows::table::falsified_naming` meets its contract. Where v is 0 no clause names it. The loop's invariant: i is at most m, and no clause below i both
 -- names v and is falsified. So the clause at i is the first that passes both tests, where it does, and where the loop ends none does. The measure is how
 -- many clauses are left. Assumes nothing.
-use mathlib.Core.Path.{_≡_, refl, sym, ap, _∙_}
+use mathlib.Core.Path.{_≡_, sym, ap, _∙_}
 use mathlib.Core.Logic.{⊎-elim}
-use mathlib.Core.Bool.{Bool, false, _&&_}
+use mathlib.Core.Bool.{Bool, false, _&&_, and-false}
 use mathlib.Core.Option.{some}
 use Prim.Native.Nat.{ℕ, _≤_, _-_}
 use native.Mathlib.Omega.{arith}
@@ -21,6 +21,10 @@ use Rattle.rows.proofs.table.falsified_naming.Tie as tie
 -- the two tests on the clause that is read are the tests on the clause in the table
 tested : (v : ℕ) (a : Assignment) {x y : Clause} → x ≡ y → {n f : Bool} → names v x ≡ n → falsified a x ≡ f → (names v y && falsified a y) ≡ (n && f)
 tested v a e p q = rw (sym e, p, q)
+
+-- a clause that is not falsified fails both
+whole : (v : ℕ) (a : Assignment) {x y : Clause} → x ≡ y → falsified a x ≡ false → (names v y && falsified a y) ≡ false
+whole v a {x} {y} e q = rw (sym e, q) (and-false (names v x))
 
 -- no clause names the empty word
 unnamed : (v : ℕ) (a : Assignment) (c : Clause) → v ≡ 0 → (names v c && falsified a c) ≡ false
@@ -45,11 +49,11 @@ loop-holds c = (omega arith, below-none _)
 clause-at-requires : tie.Need-clause-at-requires Inv-loop μ-loop
 clause-at-requires c κs = omega arith
 
-names-requires : tie.Need-names-requires Inv-loop μ-loop
-names-requires c κs = search needs
-
 falsified-requires : tie.Need-falsified-requires Inv-loop μ-loop
 falsified-requires c κs = search needs
+
+names-requires : tie.Need-names-requires Inv-loop μ-loop
+names-requires c κs = search needs
 
 returns-2 : tie.Need-returns-2 Inv-loop μ-loop
 unfolding clauses falsifiedNaming
@@ -60,8 +64,8 @@ returns-2 c =
     _
     _
     (read .clause-at .ensures)
-    (sym (c .before .before .before .names .ensures) ∙ c .before .before .if2 .taken)
-    (sym (c .before .falsified .ensures) ∙ c .if3 .taken)))
+    (sym (c .before .names .ensures) ∙ c .if3 .taken)
+    (sym (c .before .before .before .falsified .ensures) ∙ c .before .before .if2 .taken)))
 
 add-i : tie.Need-add-i Inv-loop μ-loop
 add-i c = omega arith
@@ -74,8 +78,8 @@ loop-again c = (
   omega arith,
   below-more _ _ (c .before .before .before .before .loop .inv .1)
       (⊎-elim
-      (λ w. tested _ _ (c .before .before .clause-at .ensures) (sym (c .before .names .ensures) ∙ w .0 .taken) (sym (w .1 .ensures) ∙ w .2 .left))
-      (λ w. tested _ _ (c .before .before .clause-at .ensures) (sym (c .before .names .ensures) ∙ w .left) refl)
+      (λ w. tested _ _ (c .before .before .clause-at .ensures) (sym (w .1 .ensures) ∙ w .2 .left) (sym (c .before .falsified .ensures) ∙ w .0 .taken))
+      (λ w. whole _ _ (c .before .before .clause-at .ensures) (sym (c .before .falsified .ensures) ∙ w .left))
       (c .if2 .came)),
 )
 
@@ -92,8 +96,8 @@ falsified-naming-spec =
     returns
     loop-holds
     clause-at-requires
-    names-requires
     falsified-requires
+    names-requires
     returns-2
     add-i
     loop-less
