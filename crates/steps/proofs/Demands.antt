@@ -8,6 +8,8 @@ use Rattle.steps.proofs.Allowances.{demand3, stops-spent, derived-begin
 use Rattle.steps.proofs.Bound.{always-enough}
 use Rattle.steps.proofs.Nesting.{one-deeper, never-passes}
 use Rattle.steps.proofs.Sweeping.{sweep-tests, sweep-ends}
+use Rattle.steps.proofs.NotesTaken.{notes-taken}
+use Rattle.steps.proofs.Notes.{noted-exactly, same-choice, same-sweep}
 use Rattle.steps.proofs.Parents.{never-deeper, parents-exist}
 use Rattle.steps.proofs.Covers.{covering}
 use Rattle.steps.proofs.Resolving.{resolving}
@@ -28,6 +30,10 @@ demands =
       never-deeper = never-deeper;
       sweep-tests = sweep-tests;
       sweep-ends = sweep-ends;
+      noted = noted-exactly;
+      same-choice = same-choice;
+      same-sweep = same-sweep;
+      notes-taken = notes-taken;
       parents-exist = parents-exist;
       test-fails = test-fails;
       covering = covering;

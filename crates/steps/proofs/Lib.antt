@@ -10,6 +10,8 @@ pub mod Covers
 pub mod Monotone
 pub mod ShapeSweep
 pub mod Sweeping
+pub mod NotesTaken
+pub mod Notes
 pub mod ShapeEnter
 pub mod ShapeSides
 pub mod ShapeMerge

@@ -5,7 +5,7 @@ use mathlib.Core.Bool.{Bool, true, false, _||_, true≢false, false≢true}
 use mathlib.Core.List.{List, [], _∷_, _++_, List·Memᴰ, List·Memᴰ·head, List·Memᴰ·tail, List·Memᴰ·cases-cons, List·Memᴰ·not-nil}
 use mathlib.Core.Logic.{⊎-elim}
 use mathlib.Core.Option.{Option, some, none}
-use Rattle.words.proofs.Truth.{clash}
+use Rattle.words.proofs.Truth.{both-ways, clash, confirmed}
 use Rattle.steps.specs.Lists.{find, any, filter}
 
 -- what `find` finds is in the list and passes the test
@@ -65,6 +65,10 @@ any-false {A} p (x ∷ xs) e a m = go (p x) refl e (any-false p xs) m
     go true t e below m = absurd (true≢false e)
     go false t e below (List·Memᴰ·head h) = ap p h ∙ t
     go false t e below (List·Memᴰ·tail m) = below e a m
+
+-- where an element passes, some does
+pub any-intro : {A : Type 0} (p : A → Bool) (l : List A) (a : A) → List·Memᴰ a l → p a ≡ true → any p l ≡ true
+any-intro p l a m h = confirmed (any p l) (λ e. both-ways (p a) h (any-false p l e a m))
 
 -- an element that passes stays
 pub in-filter : {A : Type 0} (p : A → Bool) (l : List A) (a : A) → List·Memᴰ a l → p a ≡ true → List·Memᴰ a (filter p l)

@@ -77,7 +77,7 @@ firstMonotone-nothing a s (x ∷ xs) e w m = go (monotone a s x) refl m (firstMo
     go (some r) f m below = let some-is : variable x r ≡ nothing = rw (f, firstMonotone) at e in clash cc
 
 -- the variable struck is live no more
-struck-live : (e : Env) (a : Assignment) (w r : ℕ) (s : State) → live e a (strike a w r s) ≡ minus (live e a s) w
+pub struck-live : (e : Env) (a : Assignment) (w r : ℕ) (s : State) → live e a (strike a w r s) ≡ minus (live e a s) w
 unfolding live
 struck-live e a w r s =
     ap (minus (undecided e a)) (append-redundant a r (bitOr (redundant s) w) s) ∙ minus-both (undecided e a) (redundant s) w

@@ -10,15 +10,16 @@ use mathlib.Core.Option.{some, none}
 use Prim.Native.Nat.{ℕ, suc, _+_, _-_, _^_, _≤_, _<_}
 use lib.Count.{ones}
 use lib.ListN.{length}
-use Rattle.words.specs.Words.{meets, firstOf, Within}
+use Rattle.words.specs.Words.{has, meets, firstOf, members, Within}
 use Rattle.steps.specs.Clause.{Clause, literals, vars, Assignment, decide, inactive, DSequent, last}
 use Rattle.steps.specs.State.{Env, State, Ending, Ending.can, Ending.cannot, Ending.outOfBranchings, Ending.outOfClauses, Side, Side.up, Side.ended, undecided, redundant, live, append, added}
-use Rattle.steps.specs.Sweep.{inactiveBy, monotone, sweep}
+use Rattle.steps.specs.Sweep.{inactiveBy, monotone, Found.nothing, Found.variable, firstMonotone, sweep}
+use Rattle.steps.specs.Notes.{noted, notes, picked, rounds}
 use Rattle.steps.specs.Enter.{Turn.branch, falsifiedNaming, enter}
 use Rattle.steps.specs.Merge.{covers, resolvent, join, merge}
 use Rattle.steps.specs.Search.{search}
 use Rattle.steps.specs.Run.{Assumptions, Outcome, given, noDecisions, start, run}
-use Rattle.steps.specs.Marked.{clause, sequent, order, Agree, C, P, Q, marked, further, covered}
+use Rattle.steps.specs.Marked.{clause, sequent, order, struck, Agree, C, N, P, Q, marked, further, covered}
 use Rattle.steps.specs.Reached.{Reached, Merges}
 use Rattle.steps.specs.Shape.{Input, Growing, Shape, OneOf}
 use Rattle.steps.specs.Meaning.{Buildable, Follows, Holds}
@@ -183,6 +184,39 @@ abbrev pub SweepEnds : Type 0
 SweepEnds =
     (e : Env) (a : Assignment) (s : State) (w : ℕ) → OneOf w (live e a (sweep e a (e .n) s)) → monotone a (sweep e a (e .n) s) w ≡ none
 
+-- step 3 by notes: a walk over the table notes entries. After the walk an entry, of option v and sign b, is noted exactly if a rule that is not out has it. For all
+-- decisions a, every struck set k and every table t
+abbrev pub Noted : Type 0
+Noted =
+    (a : Assignment) (k : ℕ) (t : List Clause) (b : Bool) (v : ℕ) →
+    (has (noted b (notes a k t)) v ≡ true) ↔ ((c : Clause) × List·Memᴰ c t × (inactive a k c ≡ false) × (has (literals b c) v ≡ true))
+
+-- from these notes step 3 picks the same option with the same decisions, or none where it finds none. So it is for whichever options ws it goes through, the live
+-- ones among them
+abbrev pub SameChoice : Type 0
+SameChoice = (a : Assignment) (s : State) (ws : List ℕ) → picked a s ws ≡ firstMonotone a s ws
+
+-- and a sweep with one walk a round, whose notes are what the next round goes by, comes to the same, whatever the number k of rounds that it may make
+abbrev pub SameSweep : Type 0
+SameSweep = (e : Env) (a : Assignment) (k : ℕ) (s : State) → rounds e a k (notes a (redundant s) (s .table)) s ≡ sweep e a k s
+
+-- notes of N, the rules 1 or 2; 3 or not 2; 4 or not 3, and what is picked from them (`struck N k` has the options of the word k struck)
+pub record NotesTaken : Type 0 where
+  -- option 1 is fitted and option 4 struck, so that only 3 or not 2 is not out. Of options 2 and 3, option 2 is picked by its fitted entry, with the decision on
+  -- option 1
+  pub one-rule : notes (record { decided = 1; trues = 1 }) 8 N ≡ record { pos = 4; neg = 2 }
+  pub by-fitted : picked (record { decided = 1; trues = 1 }) (struck N 8) (members 6) ≡ variable 2 1
+  -- option 3 is struck instead, so that all rules are out. Of options 2 and 4, option 2 is picked by its left-out entry, with no decision
+  pub no-rule : notes (record { decided = 1; trues = 1 }) 4 N ≡ record { pos = 0; neg = 0 }
+  pub by-left-out : picked (record { decided = 1; trues = 1 }) (struck N 4) (members 10) ≡ variable 2 0
+  -- nothing is decided and nothing struck, so that no rule is out. Options 2 and 3 have both entries noted, and of them none is picked
+  pub all-rules : notes noDecisions 0 N ≡ record { pos = 15; neg = 6 }
+  pub none-picked : picked noDecisions (struck N 0) (members 6) ≡ nothing
+  -- the sweep strikes option 1 first. With that 1 or 2 is out, so that option 2 passes in the next round, and so on
+  pub in-turn :
+      rounds (record { n = 4; allowance = 0; capacity = 3 }) noDecisions 4 (notes noDecisions 0 N) (start N) .records ≡
+      sequent 0 0 1 ∷ sequent 0 0 3 ∷ sequent 0 0 7 ∷ sequent 0 0 15 ∷ []
+
 -- ---- step 7
 
 -- both clauses that are resolved exist: where a run comes together (`Merges`: it branched over w at a, b first, and the sides went back up with x and y) and w
@@ -273,6 +307,10 @@ pub record Demands : Type 0 where
   pub never-deeper : NeverDeeper
   pub sweep-tests : SweepTests
   pub sweep-ends : SweepEnds
+  pub noted : Noted
+  pub same-choice : SameChoice
+  pub same-sweep : SameSweep
+  pub notes-taken : NotesTaken
   pub parents-exist : ParentsExist
   pub test-fails : TestFails
   pub covering : Covering

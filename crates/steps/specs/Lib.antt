@@ -3,6 +3,7 @@ pub mod Lists
 pub mod Clause
 pub mod State
 pub mod Sweep
+pub mod Notes
 pub mod Enter
 pub mod Merge
 pub mod Search

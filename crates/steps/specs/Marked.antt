@@ -4,7 +4,7 @@ use mathlib.Core.Path.{_≡_}
 use mathlib.Core.List.{List, [], _∷_, map}
 use Prim.Native.Nat.{ℕ}
 use Rattle.steps.specs.Clause.{Clause, DSequent}
-use Rattle.steps.specs.State.{Ending, Ending.can, Ending.cannot, Ending.outOfBranchings, Ending.outOfClauses}
+use Rattle.steps.specs.State.{State, Ending, Ending.can, Ending.cannot, Ending.outOfBranchings, Ending.outOfClauses}
 use Rattle.steps.specs.Run.{Assumptions, Outcome, run}
 
 -- the options that keep the rule when fitted, and those that keep it when left out
@@ -27,6 +27,10 @@ out x b d r = record { ending = x; branchings = b; derived = d; records = r }
 abbrev ample : ℕ → List Clause → Assumptions → Outcome
 ample n book o = run n book o 1000000 2048
 
+-- the table t with the options of the word k struck, without decisions
+abbrev pub struck : List Clause → ℕ → State
+struck t k = record { table = t; records = sequent 0 0 k ∷ []; branchings = 0 }
+
 -- every run has the outcome beside it
 abbrev pub Agree : List (Outcome × Outcome) → Type 0
 Agree cases = map (λ c. c .0) cases ≡ map (λ c. c .1) cases
@@ -34,6 +38,10 @@ Agree cases = map (λ c. c .0) cases ≡ map (λ c. c .1) cases
 -- rules 1; not 1
 abbrev pub C : List Clause
 C = clause 1 0 ∷ clause 0 1 ∷ []
+
+-- rules 1 or 2; 3 or not 2; 4 or not 3
+abbrev pub N : List Clause
+N = clause 3 0 ∷ clause 4 2 ∷ clause 8 4 ∷ []
 
 -- rules 1; not 1; 2; not 2
 abbrev pub P : List Clause

@@ -1,6 +1,7 @@
--- Laws that the sweep's proofs share.
+-- Laws of the walk, of the choice from its notes and of the sweep, and under each function's name the proof that it meets its contract.
 pub mod Members
-pub mod Sweeping
-pub mod Activity
-pub mod Strikes
+pub mod Noting
+pub mod Walks
+pub mod Choosing
 pub mod Points
+pub mod Strikes

@@ -2,32 +2,22 @@
 -- So n times are enough: once as many were made as there are live variables nothing is found, and more change nothing.
 use mathlib.Core.Path.{_≡_, refl, sym, ap, _∙_}
 use mathlib.Core.Bool.{false}
-use mathlib.Core.List.{List, [], _∷_}
-use mathlib.Core.Option.{some, none}
 use Prim.Native.Nat.{ℕ, zero, suc, _^_, _≤_, _<_}
 use native.Mathlib.Omega.{arith}
+use lib.Bits.{bitOr}
 use lib.Count.{ones}
 use Rattle.words.specs.Words.{isZero, minus, members, firstOf}
 use Rattle.words.proofs.Count.{ones-within, ones-firstOf, ones-remove}
-use Rattle.words.proofs.Lowest.{members-are}
-use Rattle.words.proofs.Sets.{member-nonzero, minus-both}
-use Rattle.steps.specs.Clause.{Assignment, DSequent, noDSequent, last}
-use Rattle.steps.specs.State.{Env, State, undecided, redundant, live}
+use Rattle.words.proofs.Lowest.{members-are, members-zero}
+use Rattle.words.proofs.Sets.{is-zero, member-nonzero, within-refl, within-minus}
+use Rattle.steps.specs.Clause.{Assignment, DSequent, last}
+use Rattle.steps.specs.State.{Env, State, redundant, live, append}
 use Rattle.steps.specs.Shape.{Shape, OneOf}
-use Rattle.steps.specs.Sweep.{monotone, Found, Found.nothing, Found.variable, firstMonotone, strike, sweep}
-use Rattle.steps.proofs.ShapeLists.{last-append}
-use Rattle.steps.proofs.ShapeKeep.{undecided-within, live-undecided}
+use Rattle.steps.specs.Notes.{notes, Literal, gather}
+use Rattle.steps.specs.Sweep.{Found, Found.nothing, Found.variable, firstMonotone, strike, sweep}
+use Rattle.steps.proofs.ShapeKeep.{undecided-within, live-undecided, append-redundant}
 use Rattle.steps.proofs.ShapeSweep.{firstMonotone-is, monotone-within, shape-strike}
-use Rattle.sweep.specs.Sweep.{monotoneBy, firstMonotoneBy}
-
--- the test over the state's table with its last D-sequent
-pub first-monotone-by : (a : Assignment) (s : State) (ws : List ℕ) → firstMonotone a s ws ≡ firstMonotoneBy (s .table) ws a (last (s .records))
-unfolding firstMonotone monotone
-first-monotone-by a s [] = refl
-first-monotone-by a s (w ∷ ws) =
-    ap
-    (λ (f : Found). elim (monotoneBy (s .table) w a (last (s .records))) as (λ _. Found) [ none ↦ f | some r ↦ variable w r ])
-    (first-monotone-by a s ws)
+use Rattle.steps.proofs.Sweeping.{struck-live}
 
 -- what the sweep finds
 abbrev pub found : Env → Assignment → State → Found
@@ -55,17 +45,29 @@ shape-found e a s w r p h =
     (found-live e a s w r h)
     (monotone-within e a s w r p (firstMonotone-is a s (members (live e a s)) w r h .1))
 
--- after a strike the variable is not live
-live-strike : (e : Env) (a : Assignment) (s : State) (w r : ℕ) → live e a (strike a w r s) ≡ minus (live e a s) w
-unfolding live
-live-strike e a s w r =
-    ap (λ (d : DSequent). minus (undecided e a) (d .redundant)) (last-append noDSequent _ (s .records)) ∙ minus-both (undecided e a) (redundant s) w
+-- the decisions gathered for the literal l
+abbrev pub reasons : Assignment → State → Literal → ℕ
+reasons a s l = gather l a (redundant s) (last (s .records) .decisions .decided) (s .table)
 
--- so fewer variables are live
+-- the D-sequent with what is gathered beside the last one, d, is the strike's
+pub strike-is : (a : Assignment) (s : State) (l : Literal) (d : DSequent) (on : ℕ)
+    → d ≡ last (s .records)
+    → on ≡ gather l a (d .redundant) (d .decisions .decided) (s .table)
+    → append a on (bitOr (d .redundant) (l .var)) s ≡ strike a (l .var) (reasons a s l) s
+strike-is a s l d on is gathered =
+    ap (λ (r : ℕ). append a r (bitOr (d .redundant) (l .var)) s) gathered
+    ∙ ap (λ (y : DSequent). append a (gather l a (y .redundant) (y .decisions .decided) (s .table)) (bitOr (y .redundant) (l .var)) s) is
+
+-- after a strike the notes are those with one variable more redundant
+pub notes-after : (a : Assignment) (s : State) (w r : ℕ)
+    → notes a (redundant (strike a w r s)) (strike a w r s .table) ≡ notes a (bitOr (redundant s) w) (s .table)
+notes-after a s w r = ap (λ (k : ℕ). notes a k (s .table)) (append-redundant a r (bitOr (redundant s) w) s)
+
+-- after a strike fewer variables are live
 pub live-fewer : (e : Env) (a : Assignment) (s : State) (w r : ℕ) → found e a s ≡ variable w r → ones (live e a (strike a w r s)) < ones (live e a s)
 live-fewer e a s w r h =
     let one = found-live e a s w r h in
-    let left : live e a (strike a w r s) ≡ minus (live e a s) (2 ^ one .var) = live-strike e a s w r ∙ ap (minus (live e a s)) (one .word) in
+    let left : live e a (strike a w r s) ≡ minus (live e a s) (2 ^ one .var) = struck-live e a w r s ∙ ap (minus (live e a s)) (one .word) in
     rw left (omega (arith, ones-remove (live e a s) (one .var) (one .member)))
 
 -- where nothing is found the sweep is done
@@ -78,6 +80,11 @@ sweep-ends e a (suc k) s h = rw h refl
 sweep-goes-on : (e : Env) (a : Assignment) (k : ℕ) (s : State) (w r : ℕ) → found e a s ≡ variable w r → sweep e a (suc k) s ≡ sweep e a k (strike a w r s)
 unfolding sweep
 sweep-goes-on e a k s w r h = rw h refl
+
+-- where nothing is live nothing is found
+pub none-live : (e : Env) (a : Assignment) (s : State) → live e a s ≡ 0 → found e a s ≡ nothing
+unfolding firstMonotone
+none-live e a s h = ap (λ (x : ℕ). firstMonotone a s (members x)) h ∙ ap (firstMonotone a s) members-zero
 
 -- as many times as there are live variables are enough
 sweep-enough : (e : Env) (a : Assignment) (k : ℕ) (s : State) → ones (live e a s) ≤ k → sweep e a (suc k) s ≡ sweep e a k s
@@ -108,3 +115,10 @@ sweep-turn e a s w r h = go (e .n) (omega (arith, few, ones-firstOf (e .n)))
     go zero le = absurd (omega (arith, live-fewer e a s w r h, le))
     go (suc k) le =
         sweep-goes-on e a k s w r h ∙ sym (sweep-enough e a k (strike a w r s) (omega (arith, live-fewer e a s w r h, le)))
+
+-- and where it was the last live variable, that is the strike alone
+pub sweep-last : (e : Env) (a : Assignment) (s : State) (w r : ℕ) → found e a s ≡ variable w r → live e a s ≡ w → sweep e a (e .n) s ≡ strike a w r s
+sweep-last e a s w r h is =
+    sweep-turn e a s w r h
+    ∙ sweep-ends e a (e .n) (strike a w r s)
+    (none-live e a (strike a w r s) (struck-live e a w r s ∙ ap (λ (x : ℕ). minus x w) is ∙ is-zero (minus w w) (within-minus w w (within-refl w))))

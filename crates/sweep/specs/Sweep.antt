@@ -1,15 +1,15 @@
--- The sweep's answers as the values of `steps`, the test of step 3 with the last D-sequent in hand, and the point that the sweep starts from.
-use mathlib.Core.Bool.{Bool, true, false}
-use mathlib.Core.List.{List, [], _∷_}
+-- The sweep's values as those of `steps`, the test of step 3 with the last D-sequent in hand, and the point that the sweep starts from.
+use mathlib.Core.Bool.{true, false}
+use mathlib.Core.List.{List}
 use mathlib.Core.Option.{Option, some, none}
 use Prim.Native.Nat.{ℕ, _≤_}
-use lib.Bits.{bitOr}
 use lib.ListN.{length}
 use Rattle.steps.specs.Lists.{orElse}
 use Rattle.steps.specs.Clause as clause
-use Rattle.steps.specs.Clause.{Clause, literals, inactive, DSequent}
+use Rattle.steps.specs.Clause.{Clause, DSequent}
+use Rattle.steps.specs.Notes as notes
 use Rattle.steps.specs.Shape.{Shape}
-use Rattle.steps.specs.Sweep.{allInactive, Found, nothing, variable}
+use Rattle.steps.specs.Sweep.{allInactive}
 use Rattle.rows.specs.Values.{assignmentOf, envOf}
 use Rattle.rows.specs.Rows.{clauseWords, sequentWords, stateOf}
 use Rattle.rows.specs.declared.clause.Assignment.{Assignment}
@@ -17,32 +17,29 @@ use Rattle.rows.specs.declared.state.Counts.{Counts}
 use Rattle.rows.specs.declared.state.Env.{Env}
 use Rattle.sweep.specs.declared.Reason.{Reason}
 use Rattle.sweep.specs.declared.Reason.the-variants as reason
-use Rattle.sweep.specs.declared.Strike.{Strike}
-use Rattle.sweep.specs.declared.Strike.the-variants as strike
+use Rattle.sweep.specs.declared.Noted.{Noted}
+use Rattle.sweep.specs.declared.Literal.{Literal}
+use Rattle.sweep.specs.declared.Chosen.{Chosen}
+use Rattle.sweep.specs.declared.Chosen.the-variants as chosen
 
 abbrev pub reasonOf : Reason → Option ℕ
 reasonOf (reason.By r) = some r
 reasonOf reason.Nothing = none
 
-abbrev pub strikeOf : Strike → Found
-strikeOf (strike.Variable w r) = variable w r
-strikeOf strike.Nothing = nothing
+abbrev pub notesOf : Noted → notes.Notes
+notesOf x = record { pos = x .pos; neg = x .neg }
 
--- the literals of one sign of the clauses that are not inactive
-unfoldable pub activeLiterals : Bool → clause.Assignment → ℕ → List Clause → ℕ
-activeLiterals b a k [] = 0
-activeLiterals b a k (c ∷ cs) =
-    elim (inactive a k c) [ true ↦ activeLiterals b a k cs | false ↦ bitOr (literals b c) (activeLiterals b a k cs) ]
+abbrev pub literalOf : Literal → notes.Literal
+literalOf l = record { var = l .var; sign = l .sign }
+
+abbrev pub choiceOf : Chosen → Option notes.Literal
+choiceOf (chosen.By l) = some (literalOf l)
+choiceOf chosen.Nothing = none
 
 -- the test of step 3 over the table t, with the last D-sequent d
 abbrev pub monotoneBy : List Clause → ℕ → clause.Assignment → DSequent → Option ℕ
 monotoneBy t w a d =
     orElse (allInactive false w a (d .redundant) (d .decisions .decided) t) (allInactive true w a (d .redundant) (d .decisions .decided) t)
-
--- the first of the listed variables that passes that test
-abbrev pub firstMonotoneBy : List Clause → List ℕ → clause.Assignment → DSequent → Found
-firstMonotoneBy t [] a d = nothing
-firstMonotoneBy t (w ∷ ws) a d = elim (monotoneBy t w a d) [ none ↦ firstMonotoneBy t ws a d | some r ↦ variable w r ]
 
 -- a point whose clauses the work table holds. Its list has room for a D-sequent for each variable
 pub record Ready (t rs : List ℕ) (e : Env) (a : Assignment) (s : Counts) : Type 0 where

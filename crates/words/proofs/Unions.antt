@@ -1,6 +1,5 @@
 -- Unions of words, by membership: what a union meets.
 use mathlib.Core.Path.{_≡_, refl, ap, ap₂, _∙_}
-use mathlib.Core.Bool as bool
 use mathlib.Core.Bool.{Bool, true, false, not, _&&_, _||_}
 use Prim.Native.Nat.{ℕ, zero, suc, _^_}
 use lib.Bits.{bitAnd, bitOr, and-comm, or-zero-l}
@@ -8,14 +7,6 @@ use Rattle.words.specs.Words.{isZero, has, meets}
 use Rattle.words.proofs.Truth.{both-ways, refuted}
 use Rattle.words.proofs.Membership.{has-and, has-or, has-bit, has-bit-eq, ext}
 use Rattle.words.proofs.Sets.{some-member, member-nonzero, or-within-l, meets-true, meets-intro}
-
--- the words of a union in groups
-pub or-assoc : (x y z : ℕ) → bitOr (bitOr x y) z ≡ bitOr x (bitOr y z)
-or-assoc x y z =
-    ext
-    (bitOr (bitOr x y) z)
-    (bitOr x (bitOr y z))
-    (λ k. rw (has-or (bitOr x y) z k, has-or x y k, has-or x (bitOr y z) k, has-or y z k) (bool.or-assoc (has x k) (has y k) (has z k)))
 
 -- a union has a member where one of its words has
 pub or-nonzero : (x y : ℕ) → not (isZero (bitOr x y)) ≡ (not (isZero x) || not (isZero y))

@@ -1,67 +1,106 @@
--- `sweep::sweep` meets its contract. The loop's invariant: the point is ready, the list keeps its length, and the definition at the state at
--- entry is the definition at the state now. A turn that finds a variable is a strike, after which the sweep is the same (`sweep-turn`); where
--- nothing is found the sweep is done. The measure is how many variables are live. Assumes nothing.
-use mathlib.Core.Path.{_≡_, refl, sym, ap, _∙_, subst}
+-- `sweep::sweep` meets its contract. Where nothing is live nothing is found, and the sweep is done. The loop's invariant: the point is ready, the list keeps its
+-- length, the definition at the state at entry is the definition at the state now, and the notes are those of the state now. So what is chosen from them is what the
+-- steps find (`same-choice`). A turn that finds a variable is a strike. If it was the last live one that is all (`sweep-last`); if not the sweep is the same after it
+-- (`sweep-turn`), and its walk has taken the notes of the state then. Where nothing is found the sweep is done. The measure is how many variables are live. Assumes
+-- nothing.
+use mathlib.Core.Path.{_≡_, refl, sym, ap, ap₂, _∙_, subst}
 use Prim.Native.Nat.{ℕ, _<_}
 use borrow.Author.Needs.{needs}
 use lib.Bits.{bitOr}
 use lib.Count.{ones}
 use lib.ListN.{length}
 use Rattle.words.specs.Words.{members}
-use Rattle.steps.specs.Clause.{DSequent}
-use Rattle.steps.specs.State.{State, live, append}
-use Rattle.steps.specs.Sweep.{Found, variable, strike, sweep}
-use Rattle.sweep.specs.Sweep.{Ready}
+use Rattle.steps.specs.Clause.{DSequent, last}
+use Rattle.steps.specs.State.{State, redundant, live, append}
+use Rattle.steps.specs.Notes.{Notes, notes, choice, gather, foundBy}
+use Rattle.steps.specs.Sweep.{variable, strike, sweep}
+use Rattle.steps.proofs.Notes.{same-choice}
 use Rattle.rows.specs.Values.{assignmentOf, envOf, sequentOf}
-use Rattle.sweep.specs.Sweep.{strikeOf}
 use Rattle.rows.specs.Rows.{stateOf}
-use Rattle.sweep.specs.Sweep.{firstMonotoneBy}
-use Rattle.sweep.proofs.Points.{list-fits, next-fits, still-ready}
-use Rattle.sweep.proofs.Points.{live-is}
-use Rattle.sweep.proofs.Strikes.{found, first-monotone-by, found-nonzero, shape-found, live-fewer, sweep-ends, sweep-turn}
+use Rattle.sweep.specs.declared.Chosen.{Chosen}
+use Rattle.sweep.specs.Sweep.{notesOf, literalOf, choiceOf, Ready}
+use Rattle.sweep.proofs.Points.{list-fits, next-fits, still-ready, live-is}
+use Rattle.sweep.proofs.Strikes.{found, found-nonzero, shape-found, live-fewer, none-live, reasons, strike-is, notes-after, sweep-ends, sweep-turn, sweep-last}
 use Rattle.sweep.proofs.sweep.Statement.{statement}
 use Rattle.sweep.proofs.sweep.Tie as tie
 
 abbrev Inv-loop : tie.InvT-loop
-Inv-loop t rs₀ e a now₀ rs now =
+Inv-loop t rs₀ e a seen₀ now₀ rs seen now =
+    let s = stateOf t rs now in
     Ready t rs e a now
     × (length rs ≡ length rs₀)
-    × (sweep (envOf e) (assignmentOf a) (e .vars) (stateOf t rs₀ now₀) ≡ sweep (envOf e) (assignmentOf a) (e .vars) (stateOf t rs now))
+    × (sweep (envOf e) (assignmentOf a) (e .vars) (stateOf t rs₀ now₀) ≡ sweep (envOf e) (assignmentOf a) (e .vars) s)
+    × (notesOf seen ≡ notes (assignmentOf a) (redundant s) (s .table))
 
 abbrev μ-loop : tie.MeasureT-loop
-μ-loop t rs₀ e a now₀ rs now = ones (live (envOf e) (assignmentOf a) (stateOf t rs now))
-
-loop-holds : tie.Need-loop-holds Inv-loop μ-loop
-loop-holds c = (c .before .before .pre, refl, refl)
+μ-loop t rs₀ e a seen₀ now₀ rs seen now = ones (live (envOf e) (assignmentOf a) (stateOf t rs now))
 
 last-requires : tie.Need-last-requires Inv-loop μ-loop
-last-requires c κs = list-fits (c .before .loop .inv .0)
+last-requires c κs = list-fits (c .before .before .before .pre)
 
 undecided-requires : tie.Need-undecided-requires Inv-loop μ-loop
-undecided-requires c κs = c .before .before .loop .inv .0 .vars
+undecided-requires c κs = c .before .before .before .before .pre .vars
 
 minus-requires : tie.Need-minus-requires Inv-loop μ-loop
 minus-requires c κs = search needs
 
-first-monotone-requires : tie.Need-first-monotone-requires Inv-loop μ-loop
-first-monotone-requires c κs = c .before .before .before .before .loop .inv .0 .table
+same-length : tie.Need-same-length Inv-loop μ-loop
+same-length c = refl
 
--- what the turn finds is what the definition finds
-found-is : (c : tie.After-first-monotone Inv-loop μ-loop)
+returns : tie.Need-returns Inv-loop μ-loop
+returns c =
+    let g = c .before .before .before .before .before .before .before .args in
+    let s = stateOf (g .t .now) (g .rs .now) (g .s) in
+    let d = c .before .before .before .last in
+    let is-live = live-is _ _ s _ _ (sequentOf (d .result)) (c .before .minus .ensures) (c .before .before .undecided .ensures) (d .ensures) in
+    sym (sweep-ends (envOf (g .e)) (assignmentOf (g .a)) (g .e .vars) s (none-live (envOf (g .e)) (assignmentOf (g .a)) s (sym is-live ∙ c .if1 .taken)))
+
+notes-requires : tie.Need-notes-requires Inv-loop μ-loop
+notes-requires c κs = c .before .before .before .before .before .before .before .pre .table
+
+loop-holds : tie.Need-loop-holds Inv-loop μ-loop
+loop-holds c =
+    let g = c .before .before .before .before .before .before .before .before .args in (
+      c .before .before .before .before .before .before .before .before .pre,
+      refl,
+      refl,
+      c .notes .ensures
+          ∙ ap (λ (d : DSequent). notes (assignmentOf (g .a)) (d .redundant) (stateOf (g .t .now) (g .rs .now) (g .s) .table)) (c .before .before .before .before .last .ensures),
+    )
+
+last-requires-2 : tie.Need-last-requires-2 Inv-loop μ-loop
+last-requires-2 c κs = list-fits (c .before .loop .inv .0)
+
+undecided-requires-2 : tie.Need-undecided-requires-2 Inv-loop μ-loop
+undecided-requires-2 c κs = c .before .before .loop .inv .0 .vars
+
+minus-requires-2 : tie.Need-minus-requires-2 Inv-loop μ-loop
+minus-requires-2 c κs = search needs
+
+choice-requires : tie.Need-choice-requires Inv-loop μ-loop
+choice-requires c κs = search needs
+
+-- the live variables are as the code computes them
+is-live : (c : tie.After-minus2 Inv-loop μ-loop)
+    → let l = c .before .before .before .before in
+    let g = l .before .before .before .before .before .before .before .before .before .args in
+    c .minus2 .result ≡ live (envOf (g .e)) (assignmentOf (g .a)) (stateOf (g .t .now) (l .loop .rs) (l .loop .now))
+is-live c =
+    let d = c .before .before .last2 in
+    live-is _ _ _ _ _ (sequentOf (d .result)) (c .minus2 .ensures) (c .before .undecided2 .ensures) (d .ensures)
+
+-- what the turn chooses is what the steps find
+found-is : (c : tie.After-choice Inv-loop μ-loop)
     → let l = c .before .before .before .before .before in
-    let a = l .before .before .before .args in
-    strikeOf (c .first-monotone .result) ≡ found (envOf (a .e)) (assignmentOf (a .a)) (stateOf (a .t .now) (l .loop .rs) (l .loop .now))
+    let g = l .before .before .before .before .before .before .before .before .before .args in
+    let s = stateOf (g .t .now) (l .loop .rs) (l .loop .now) in
+    foundBy (assignmentOf (g .a)) s (choiceOf (c .choice .result)) ≡ found (envOf (g .e)) (assignmentOf (g .a)) s
 found-is c =
     let l = c .before .before .before .before .before in
-    let a = l .before .before .before .args in
-    let s = stateOf (a .t .now) (l .loop .rs) (l .loop .now) in
-    let d = c .before .before .before .last in
-    let u = c .before .before .undecided in
-    let by : ℕ → DSequent → Found = λ x y. firstMonotoneBy (s .table) (members x) (assignmentOf (a .a)) y in
-    c .first-monotone .ensures
-    ∙ ap (λ (x : ℕ). by x (sequentOf (d .result))) (live-is _ _ s _ _ (sequentOf (d .result)) (c .before .minus .ensures) (u .ensures) (d .ensures))
-    ∙ ap (by (live (envOf (a .e)) (assignmentOf (a .a)) s)) (d .ensures)
-    ∙ sym (first-monotone-by (assignmentOf (a .a)) s (members (live (envOf (a .e)) (assignmentOf (a .a)) s)))
+    let g = l .before .before .before .before .before .before .before .before .before .args in
+    let s = stateOf (g .t .now) (l .loop .rs) (l .loop .now) in
+    ap (foundBy (assignmentOf (g .a)) s) (c .choice .ensures ∙ ap₂ (λ (x : ℕ) (n : Notes). choice (members x) n) (is-live (c .before)) (l .loop .inv .3))
+    ∙ same-choice (assignmentOf (g .a)) s (members (live (envOf (g .e)) (assignmentOf (g .a)) s))
 
 enum-known-found : tie.Need-enum-known-found Inv-loop μ-loop
 enum-known-found c = search needs
@@ -69,75 +108,123 @@ enum-known-found c = search needs
 enum-told : tie.Need-enum-told Inv-loop μ-loop
 enum-told c = search needs
 
-same-length : tie.Need-same-length Inv-loop μ-loop
-same-length c = c .before .before .before .before .before .before .before .loop .inv .1
+same-length-2 : tie.Need-same-length-2 Inv-loop μ-loop
+same-length-2 c = c .before .before .before .before .before .before .before .loop .inv .1
 
-returns : tie.Need-returns Inv-loop μ-loop
-returns c =
-    let f = c .before .before in
-    let l = f .before .before .before .before .before in
-    let a = l .before .before .before .args in
-    let nothing-found = sym (found-is f) ∙ ap strikeOf (c .enum-told .given .1) in
-    sym (l .loop .inv .2 ∙ sweep-ends (envOf (a .e)) (assignmentOf (a .a)) (a .e .vars) _ nothing-found)
+returns-2 : tie.Need-returns-2 Inv-loop μ-loop
+returns-2 c =
+    let l = c .before .before .before .before .before .before .before in
+    let g = l .before .before .before .before .before .before .before .before .before .args in
+    let s = stateOf (g .t .now) (l .loop .rs) (l .loop .now) in
+    let nothing-found = sym (found-is (c .before .before)) ∙ ap (λ (o : Chosen). foundBy (assignmentOf (g .a)) s (choiceOf o)) (c .enum-told .given .1) in
+    sym (l .loop .inv .2 ∙ sweep-ends (envOf (g .e)) (assignmentOf (g .a)) (g .e .vars) s nothing-found)
 
 -- a variable is found
 struck : (c : tie.After-found Inv-loop μ-loop)
     → let l = c .before .before .before .before .before .before .before in
-    let a = l .before .before .before .args in
-    found (envOf (a .e)) (assignmentOf (a .a)) (stateOf (a .t .now) (l .loop .rs) (l .loop .now)) ≡ variable (c .found .given .0 .0) (c .found .given .0 .1 .0)
-struck c = sym (found-is (c .before .before)) ∙ ap strikeOf (c .found .given .1)
+    let g = l .before .before .before .before .before .before .before .before .before .args in
+    let s = stateOf (g .t .now) (l .loop .rs) (l .loop .now) in
+    let w = c .found .given .0 .0 in
+    found (envOf (g .e)) (assignmentOf (g .a)) s ≡ variable (w .var) (reasons (assignmentOf (g .a)) s (literalOf w))
+struck c =
+    let l = c .before .before .before .before .before .before .before in
+    let g = l .before .before .before .before .before .before .before .before .before .args in
+    let s = stateOf (g .t .now) (l .loop .rs) (l .loop .now) in
+    sym (found-is (c .before .before)) ∙ ap (λ (o : Chosen). foundBy (assignmentOf (g .a)) s (choiceOf o)) (c .found .given .1)
+
+gather-requires : tie.Need-gather-requires Inv-loop μ-loop
+gather-requires c κs = c .before .before .before .before .before .before .before .before .before .before .loop .inv .0 .table
 
 append-requires : tie.Need-append-requires Inv-loop μ-loop
-append-requires c κs =
-    let ready = c .before .before .before .before .before .before .before .before .before .before .loop .inv .0 in
-    next-fits ready (found-nonzero _ _ _ _ _ (struck (c .before .before .before)))
+append-requires c κs = let f = c .before .before .before .before .before .before .before in next-fits (f .before .before .before .before .before .before .before .loop .inv .0) (found-nonzero _ _ _ _ _ (struck f))
+
+same-length-3 : tie.Need-same-length-3 Inv-loop μ-loop
+same-length-3 c = c .before .before .append .kept .0 ∙ c .before .before .before .before .before .before .before .before .before .before .before .before .before .before .before .before .before .loop .inv .1
+
+-- the last live variable is struck
+returns-3 : tie.Need-returns-3 Inv-loop μ-loop
+returns-3 c =
+    let p = c .before .before in
+    let gathered = p .before .before .before .before in
+    let f = gathered .before .before .before .before in
+    let l = f .before .before .before .before .before .before .before in
+    let g = l .before .before .before .before .before .before .before .before .before .args in
+    let s = stateOf (g .t .now) (l .loop .rs) (l .loop .now) in
+    let d = f .before .before .before .before .before .last2 in
+    let last-live = sym (is-live (f .before .before .before)) ∙ gathered .before .if2 .taken in
+    p .append .ensures (g .t .now)
+    ∙ strike-is (assignmentOf (g .a)) s (literalOf (f .found .given .0 .0)) (sequentOf (d .result)) _ (d .ensures) (gathered .gather .ensures)
+    ∙ sym (l .loop .inv .2 ∙ sweep-last (envOf (g .e)) (assignmentOf (g .a)) s _ _ (struck f) last-live)
+
+strike-requires : tie.Need-strike-requires Inv-loop μ-loop
+strike-requires c κs = c .before .before .before .before .before .before .before .before .before .before .loop .inv .0 .table
+
+append-requires-2 : tie.Need-append-requires-2 Inv-loop μ-loop
+append-requires-2 c κs = let f = c .before .before .before .before .before .before .before .before in next-fits (f .before .before .before .before .before .before .before .loop .inv .0) (found-nonzero _ _ _ _ _ (struck f))
 
 -- the D-sequent that is appended is the strike's
-strikes : (c : tie.After-append Inv-loop μ-loop)
-    → let f = c .before .before .before .before in
+strikes : (c : tie.After-append2 Inv-loop μ-loop)
+    → let f = c .before .before .before .before .before .before .before .before .before in
     let l = f .before .before .before .before .before .before .before in
-    let a = l .before .before .before .args in
-    stateOf (a .t .now) (c .append .last .0) (c .append .result)
-    ≡ strike (assignmentOf (a .a)) (f .found .given .0 .0) (f .found .given .0 .1 .0) (stateOf (a .t .now) (l .loop .rs) (l .loop .now))
+    let g = l .before .before .before .before .before .before .before .before .before .args in
+    let s = stateOf (g .t .now) (l .loop .rs) (l .loop .now) in
+    let w = f .found .given .0 .0 in
+    stateOf (g .t .now) (c .append2 .last .0) (c .append2 .result)
+    ≡ strike (assignmentOf (g .a)) (w .var) (reasons (assignmentOf (g .a)) s (literalOf w)) s
 strikes c =
-    let f = c .before .before .before .before in
+    let walked = c .before .before .before .before .before in
+    let f = walked .before .before .before .before in
     let l = f .before .before .before .before .before .before .before in
-    let a = l .before .before .before .args in
-    c .append .ensures (a .t .now)
-    ∙ ap
-    (λ (d : DSequent).
-    append
-    (assignmentOf (a .a))
-    (f .found .given .0 .1 .0)
-    (bitOr (d .redundant) (f .found .given .0 .0))
-    (stateOf (a .t .now) (l .loop .rs) (l .loop .now)))
-    (f .before .before .before .before .before .last .ensures)
+    let g = l .before .before .before .before .before .before .before .before .before .args in
+    let s = stateOf (g .t .now) (l .loop .rs) (l .loop .now) in
+    let d = f .before .before .before .before .before .last2 in
+    c .append2 .ensures (g .t .now)
+    ∙ strike-is (assignmentOf (g .a)) s (literalOf (f .found .given .0 .0)) (sequentOf (d .result)) _ (d .ensures) (walked .strike .ensures .1)
+
+-- and the notes are those of the state after it
+notes-are : (c : tie.After-append2 Inv-loop μ-loop)
+    → let walked = c .before .before .before .before .before in
+    let g = walked .before .before .before .before .before .before .before .before .before .before .before .before .before .before .before .before .before .before .before .before .args in
+    let s = stateOf (g .t .now) (c .append2 .last .0) (c .append2 .result) in
+    notesOf (walked .strike .result .seen) ≡ notes (assignmentOf (g .a)) (redundant s) (s .table)
+notes-are c =
+    let walked = c .before .before .before .before .before in
+    let f = walked .before .before .before .before in
+    let l = f .before .before .before .before .before .before .before in
+    let g = l .before .before .before .before .before .before .before .before .before .args in
+    let s = stateOf (g .t .now) (l .loop .rs) (l .loop .now) in
+    let w = f .found .given .0 .0 in
+    walked .strike .ensures .0
+    ∙ ap (λ (y : DSequent). notes (assignmentOf (g .a)) (bitOr (y .redundant) (w .var)) (s .table)) (f .before .before .before .before .before .last2 .ensures)
+    ∙ sym (notes-after (assignmentOf (g .a)) s (w .var) (reasons (assignmentOf (g .a)) s (literalOf w)))
+    ∙ ap (λ (x : State). notes (assignmentOf (g .a)) (redundant x) (x .table)) (sym (strikes c))
 
 loop-less : tie.Need-loop-less Inv-loop μ-loop
 loop-less c =
     let p = c .before .before in
-    let f = p .before .before .before .before in
+    let f = p .before .before .before .before .before .before .before .before .before in
     let l = f .before .before .before .before .before .before .before in
-    let a = l .before .before .before .args in
-    let s = stateOf (a .t .now) (l .loop .rs) (l .loop .now) in
+    let g = l .before .before .before .before .before .before .before .before .before .args in
+    let s = stateOf (g .t .now) (l .loop .rs) (l .loop .now) in
     subst
-    (λ (x : State). ones (live (envOf (a .e)) (assignmentOf (a .a)) x) < ones (live (envOf (a .e)) (assignmentOf (a .a)) s))
+    (λ (x : State). ones (live (envOf (g .e)) (assignmentOf (g .a)) x) < ones (live (envOf (g .e)) (assignmentOf (g .a)) s))
     (sym (strikes p))
-    (live-fewer (envOf (a .e)) (assignmentOf (a .a)) s _ _ (struck f))
+    (live-fewer (envOf (g .e)) (assignmentOf (g .a)) s _ _ (struck f))
 
 loop-again : tie.Need-loop-again Inv-loop μ-loop
 loop-again c =
     let p = c .before .before in
-    let f = p .before .before .before .before in
+    let f = p .before .before .before .before .before .before .before .before .before in
     let l = f .before .before .before .before .before .before .before in
-    let a = l .before .before .before .args in
-    let s = stateOf (a .t .now) (l .loop .rs) (l .loop .now) in
+    let g = l .before .before .before .before .before .before .before .before .before .args in
+    let s = stateOf (g .t .now) (l .loop .rs) (l .loop .now) in
     let ready = l .loop .inv .0 in (
-      still-ready _ ready (p .append .kept .0) (strikes p) refl (shape-found (envOf (a .e)) (assignmentOf (a .a)) s _ _ (ready .shape) (struck f)),
-      p .append .kept .0 ∙ l .loop .inv .1,
+      still-ready _ ready (p .append2 .kept .0) (strikes p) refl (shape-found (envOf (g .e)) (assignmentOf (g .a)) s _ _ (ready .shape) (struck f)),
+      p .append2 .kept .0 ∙ l .loop .inv .1,
       l .loop .inv .2
-          ∙ sweep-turn (envOf (a .e)) (assignmentOf (a .a)) s _ _ (struck f)
-          ∙ ap (sweep (envOf (a .e)) (assignmentOf (a .a)) (a .e .vars)) (sym (strikes p)),
+          ∙ sweep-turn (envOf (g .e)) (assignmentOf (g .a)) s _ _ (struck f)
+          ∙ ap (sweep (envOf (g .e)) (assignmentOf (g .a)) (g .e .vars)) (sym (strikes p)),
+      notes-are p,
     )
 
 pub sweep-spec : {M : Type 1} → statement M
@@ -146,15 +233,26 @@ sweep-spec =
     (tie.spec
     Inv-loop
     μ-loop
-    loop-holds
     last-requires
     undecided-requires
     minus-requires
-    first-monotone-requires
-    enum-known-found
-    enum-told
     same-length
     returns
+    notes-requires
+    loop-holds
+    last-requires-2
+    undecided-requires-2
+    minus-requires-2
+    choice-requires
+    enum-known-found
+    enum-told
+    same-length-2
+    returns-2
+    gather-requires
     append-requires
+    same-length-3
+    returns-3
+    strike-requires
+    append-requires-2
     loop-less
     loop-again)
