@@ -42,10 +42,11 @@ pub record Promised (n : ℕ) (cs : List Clause) (o : Assumptions) (allowance : 
   pub answer : r ≡ answerOf (resultOf n cs o allowance (lengths before))
   pub tables : after ≡ filled (resultOf n cs o allowance (lengths before)) before
 
--- such a book, with room for so many places and for a D-sequent for each variable
-pub record Runnable (b : Book) (o : Assumptions) (places : ℕ) (t rs : List ℕ) : Type 0 where
+-- such a book, with room for so many places, for the tallies of the largest run and for a D-sequent for each variable
+pub record Runnable (b : Book) (o : Assumptions) (places : ℕ) (t q rs : List ℕ) : Type 0 where
   pub workable : Workable b o t
   pub places-few : places ≤ maxDerived
+  pub tally-room : maxClauses + maxVars + maxDerived ≤ length q
   pub list-room : sequentWords maxVars ≤ length rs
 
 -- the work tables hold the outcome of the run, the derived clauses after book and order

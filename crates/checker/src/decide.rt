@@ -22,9 +22,10 @@ pub fn decide(
     allowance: u32,
     places: usize,
     t: &mut [u64],
+    q: &mut [u64],
     rs: &mut [u64],
 ) -> Done
-    requires { ⌜ Runnable b (assumptionsOf o) places (now t) (now rs) ⌝ }
+    requires { ⌜ Runnable b (assumptionsOf o) places (now t) (now q) (now rs) ⌝ }
     ensures { λ r. ⌜ HasRun (b .vars) (clauses (now (t .entry)) (b .clauses)) (assumptionsOf o) allowance places r (now (t .exit)) (now (rs .exit)) ⌝ }
 {
     let m = b.assume(o, t);
@@ -33,7 +34,7 @@ pub fn decide(
         allowance: allowance,
         capacity: m + places,
     };
-    let found = run::run(t, rs, e, m);
+    let found = run::run(t, q, rs, e, m);
     Done {
         answer: found,
         given: m,

@@ -61,8 +61,9 @@ fn run_book(
     ) {
         return Answer::Refused(9);
     }
+    let mut q = [0u64; Book::MAX_CLAUSES + (Book::MAX_VARS as usize) + Book::MAX_DERIVED];
     let mut rs = [0u64; records::WORDS * (Book::MAX_VARS as usize)];
-    let done = decide::decide(b, o, allowance, pos.len(), t, &mut rs);
+    let done = decide::decide(b, o, allowance, pos.len(), t, &mut q, &mut rs);
     let found = done.answer;
     let tally = answer::tally_of(found);
     tables::hand_out(

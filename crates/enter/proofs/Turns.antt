@@ -1,17 +1,20 @@
 -- Steps 2 to 5 once their tests are known.
-use mathlib.Core.Path.{_≡_, refl, ap, sym, _∙_}
+use mathlib.Core.Path.{_≡_, refl}
 use mathlib.Core.Bool.{true, false, not}
 use mathlib.Core.Option.{some, none}
-use Prim.Native.Nat.{ℕ, _^_}
-use Rattle.words.specs.Words.{isZero, minus, lowest}
-use Rattle.words.proofs.Membership.{has-bit-eq, has-bit}
-use Rattle.words.proofs.Lowest.{lowest-is}
-use Rattle.words.proofs.Sets.{member-nonzero}
+use Prim.Native.Nat.{ℕ}
+use Rattle.words.specs.Words.{isZero, minus, meets, lowest, Within}
+use Rattle.words.proofs.Sets.{meets-false-intro}
 use Rattle.steps.specs.Lists.{find, any}
 use Rattle.steps.specs.Clause.{Clause, vars, Assignment, falsified}
-use Rattle.steps.specs.State.{Env, State, redundant, live, appendFalsified}
+use Rattle.steps.specs.State.{Env, State, undecided, redundant, live, appendFalsified}
 use Rattle.steps.specs.Sweep.{sweep}
 use Rattle.steps.specs.Enter.{Turn.back, Turn.satisfiable, Turn.branch, unit, swept, falsifiedNaming, conflict, enter}
+use Rattle.steps.proofs.ShapeKeep.{undecided-not-decided}
+
+-- a set of undecided variables shares nothing with the decided ones
+pub apart : (e : Env) (a : Assignment) (k : ℕ) → Within k (undecided e a) → meets k (a .decided) ≡ false
+apart e a k h = meets-false-intro k (a .decided) (λ j m. undecided-not-decided e a j (h j m))
 
 module _ (e : Env) (a : Assignment) (s : State) where
   -- step 4 where a clause is falsified, and where none is
@@ -34,12 +37,6 @@ module _ (e : Env) (a : Assignment) (s : State) where
       branch (minus (vars c) (a .decided)) (not (isZero (minus (c .pos) (a .decided)))) s ≡ swept e a s
   unfolding swept
   swept-unit c z f = rw (z, f, swept) refl
-
--- the lowest member of a word of one variable is that word
-pub lowest-bit : (k : ℕ) → lowest (2 ^ k) ≡ 2 ^ k
-lowest-bit k =
-    let low = lowest-is (2 ^ k) (member-nonzero (2 ^ k) k (has-bit k)) in
-    low .1 ∙ ap (λ (j : ℕ). 2 ^ j) (sym (has-bit-eq k (low .0) (low .2)))
 
 module _ (e : Env) (a : Assignment) (v : ℕ) (s : State) where
   -- steps 3 to 5, where no falsified clause names v

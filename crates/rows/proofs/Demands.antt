@@ -1,74 +1,48 @@
--- Every demand of `specs/Demands`. A clause has no undecided variable exactly if neither sign has an undecided literal, and a word is empty exactly if it has no
--- members to count; two are the definitions. A clause is falsified exactly if each of its literals is false.
-use mathlib.Core.Path.{_≡_, refl, ap, ap₂, sym, _∙_}
-use mathlib.Core.Bool.{Bool, true, false, not, _&&_, _||_}
-use Prim.Native.Nat.{ℕ, zero, suc, _+_}
-use native.Mathlib.Nat.{zero-add}
+-- Every demand of `specs/Demands`. Below 256 a word has its struck digit and its decisions (`word-low`), so that two equal words have the same of each, and then as
+-- many undecided literals. Of a tallied table each word is that of its clause, and so are all of them in order.
+use mathlib.Core.Path.{_≡_, refl, sym, ap, _∙_}
+use mathlib.Core.Bool.{Bool, true, false}
+use mathlib.Core.List.{_∷_, map}
+use Prim.Native.Nat.{ℕ, zero, suc, _+_, _*_, _%_}
 use native.Mathlib.Omega.{arith}
-use lib.Bits.{bitOr}
-use lib.Count.{ones}
-use Rattle.words.specs.Words.{isZero, has, minus}
-use Rattle.words.proofs.Truth.{not-not, iff}
-use Rattle.words.proofs.Sets.{nonzero, minus-or, in-and, in-minus, minus-out, minus-within, and-within-l, and-within-r}
-use Rattle.words.proofs.Unions.{or-nonzero}
-use Rattle.words.proofs.Count.{zero-ones}
-use Rattle.steps.specs.Clause.{Assignment, literals, vars, satisfied, falsified, undecidedIn, inactive}
-use Rattle.steps.specs.Enter.{unit}
-use Rattle.steps.specs.Merge.{covers}
-use Rattle.steps.proofs.Literals.{falsified-true, true-falsified}
-use Rattle.steps.proofs.Covers.{covers-literals, literals-cover}
-use Rattle.rows.specs.Status.{falseLiterals}
-use Rattle.rows.specs.Demands.{Demands, FalsifiedByStatus, UnitByStatus, InactiveByStatus, FalsifiedByCover}
+use lib.ListN.{getD}
+use Rattle.words.specs.Words.{digit}
+use Rattle.steps.specs.Tally.{Tally, tallyOf}
+use Rattle.rows.specs.Rows.{from, clauseAt, clauses}
+use Rattle.rows.specs.Tally.{wordOf}
+use Rattle.rows.specs.Demands.{Demands, WordTells, InOrder}
+use Rattle.rows.proofs.Lists.{from-same}
+use Rattle.rows.proofs.TallyWords.{digit-small, word-low}
 
--- a sum is not 0 where one of its parts is not
-sum-nonzero : (x y : ℕ) → not (isZero (x + y)) ≡ (not (isZero x) || not (isZero y))
-sum-nonzero zero y = ap (λ (z : ℕ). not (isZero z)) (zero-add y)
-sum-nonzero (suc x) y = ap not (nonzero (suc x + y) (λ e. omega arith))
+-- a digit says which truth value it is of
+digit-tells : (p q : Bool) → digit p ≡ digit q → p ≡ q
+digit-tells true true e = refl
+digit-tells false false e = refl
+digit-tells true false e = absurd (omega arith)
+digit-tells false true e = absurd (omega arith)
 
--- a union has members to count where one of its words has
-union-counted : (x y : ℕ) → isZero (bitOr x y) ≡ isZero (ones x + ones y)
-union-counted x y =
-    not-not
-    (isZero (bitOr x y))
-    (isZero (ones x + ones y))
-    (or-nonzero x y ∙ sym (sum-nonzero (ones x) (ones y) ∙ ap₂ (λ (p q : Bool). not p || not q) (zero-ones x) (zero-ones y)))
+-- a tally whose three parts are known
+tally-is : {u w k l : ℕ} {s r : Bool} → u ≡ w → k ≡ l → s ≡ r
+    → _≡_ {A = Tally} (record { undecided = u; keepers = k; struck = s }) (record { undecided = w; keepers = l; struck = r })
+tally-is e f g = cc
 
-falsified-by-status : FalsifiedByStatus
-unfolding falsified undecidedIn vars
-falsified-by-status a k c =
-    ap
-    (λ (z : Bool). z && not (satisfied a c))
-    (ap isZero (minus-or (c .pos) (c .neg) (a .decided)) ∙ union-counted (minus (c .pos) (a .decided)) (minus (c .neg) (a .decided)))
+word-tells : WordTells
+word-tells x y few few′ e =
+    let low : digit (x .struck) + 2 * x .keepers ≡ digit (y .struck) + 2 * y .keepers = sym (word-low x few) ∙ ap (λ (n : ℕ). n % 256) e ∙ word-low y few′ in
+    let keepers : x .keepers ≡ y .keepers = omega (arith, digit-small (x .struck), digit-small (y .struck)) in
+    tally-is (omega arith) keepers (digit-tells (x .struck) (y .struck) (omega arith))
 
-pub unit-by-status : UnitByStatus
-unfolding unit
-unit-by-status a k c = refl
+-- what f makes of values in a row
+map-from : {A B : Type 0} (f : A → B) (g : ℕ → A) (i k : ℕ) → from (λ j. f (g j)) i k ≡ map f (from g i k)
+map-from f g i zero = refl
+map-from f g i (suc k) = ap (λ l. f (g i) ∷ l) (map-from f g (suc i) k)
 
-inactive-by-status : InactiveByStatus
-unfolding inactive
-inactive-by-status a k c = refl
-
--- a literal of a falsified clause is false, and so one of the false ones
-false-literal : (a : Assignment) (b : Bool) (k : ℕ) → has (a .decided) k ≡ true → has (a .trues) k ≡ not b → has (literals b (falseLiterals a)) k ≡ true
-false-literal a true k d t = in-minus (a .decided) (a .trues) k d t
-false-literal a false k d t = in-and (a .decided) (a .trues) k d t
-
--- and each of these is false
-literal-false : (a : Assignment) (b : Bool) (k : ℕ) → has (literals b (falseLiterals a)) k ≡ true → (has (a .decided) k ≡ true) × (has (a .trues) k ≡ not b)
-literal-false a true k l = (minus-within (a .decided) (a .trues) k l, minus-out (a .decided) (a .trues) k l)
-literal-false a false k l = (and-within-l (a .decided) (a .trues) k l, and-within-r (a .decided) (a .trues) k l)
-
-pub falsified-by-cover : FalsifiedByCover
-falsified-by-cover a c =
-    iff (falsified a c) (covers c (falseLiterals a))
-    (λ h. literals-cover c (falseLiterals a) (λ b k l. let f = falsified-true a c h b k l in false-literal a b k (f .0) (f .1)))
-    (λ h. true-falsified a c (λ b k l. literal-false a b k (covers-literals c (falseLiterals a) h b k l)))
+in-order : InOrder
+unfolding clauses
+in-order t q m a k tallied =
+    from-same (λ i. getD q i 0) (λ i. wordOf (tallyOf a k (clauseAt t i))) 0 m (λ j _ below. tallied .held j (omega arith))
+    ∙ map-from wordOf (λ i. tallyOf a k (clauseAt t i)) 0 m
+    ∙ ap (map wordOf) (map-from (tallyOf a k) (clauseAt t) 0 m)
 
 pub demands : Demands
-demands =
-    record {
-      falsified-by-status = falsified-by-status;
-      unit-by-status = unit-by-status;
-      inactive-by-status = inactive-by-status;
-      falsified-by-cover = falsified-by-cover;
-    }
+demands = record { word-tells = word-tells; in-order = in-order }

@@ -2,14 +2,17 @@
 -- the test (`NoneBelow`), so the look through the whole table is the look through the rest from there on. A value more at the end is kept or dropped
 -- by the test.
 use mathlib.Core.Path.{_≡_, refl, sym, ap, ap₂, _∙_}
+use mathlib.Core.Logic.{_≢_}
 use mathlib.Core.Bool.{Bool, true, false}
-use mathlib.Core.List.{List, [], _∷_, _++_, append-nil}
+use mathlib.Core.List.{List, [], _∷_, _++_, append-nil, List·Memᴰ, List·Memᴰ·head, List·Memᴰ·tail}
 use mathlib.Core.Option.{Option, some, none}
 use Prim.Native.Nat.{ℕ, zero, suc, _+_, _-_, _≤_, _<_}
 use native.Mathlib.Nat.{add-zero, zero-add, sub-zero}
 use native.Mathlib.Numerals.{add-one}
 use native.Mathlib.Omega.{arith}
+use lib.Dec.{eqb}
 use lib.ListN.{length, drop}
+use borrow.Author.Tests.{eqb-true, eqb-false}
 use Rattle.steps.specs.Lists.{find, any, filter}
 use Rattle.rows.specs.Rows.{from}
 
@@ -28,6 +31,15 @@ module _ {A : Type 0} where
   pub from-length : (f : ℕ → A) (i k : ℕ) → length (from f i k) ≡ k
   from-length f i zero = refl
   from-length f i (suc k) = ap suc (from-length f (suc i) k)
+
+  -- each of them is among them
+  pub from-has : (f : ℕ → A) (i k j : ℕ) → i ≤ j → j < i + k → List·Memᴰ (f j) (from f i k)
+  from-has f i zero j h l = absurd (omega arith)
+  from-has f i (suc k) j h l = go (λ other. from-has f (suc i) k j (omega arith) (omega arith)) (eqb i j) refl
+    where
+      go : (i ≢ j → List·Memᴰ (f j) (from f (suc i) k)) → (b : Bool) → eqb i j ≡ b → List·Memᴰ (f j) (from f i (suc k))
+      go later true e = List·Memᴰ·head (ap f (sym (eqb-true i j e)))
+      go later false e = List·Memᴰ·tail (later (eqb-false i j e))
 
   -- one more at the end
   pub from-snoc : (f : ℕ → A) (i k : ℕ) → from f i (suc k) ≡ from f i k ++ (f (i + k) ∷ [])

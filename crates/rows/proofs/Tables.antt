@@ -2,7 +2,7 @@
 -- So the first k entries stay under a store at k or beyond, and a store at k is one entry more at the end.
 use mathlib.Core.Path.{_≡_, ap, sym, _∙_}
 use mathlib.Core.Logic.{_≢_}
-use mathlib.Core.List.{List, [], _∷_, _++_}
+use mathlib.Core.List.{List, [], _∷_, _++_, List·Memᴰ}
 use Prim.Native.Nat.{ℕ, _+_, _-_, _*_, _≤_, _<_}
 use native.Mathlib.Nat.{zero-add}
 use native.Mathlib.Omega.{arith}
@@ -10,7 +10,7 @@ use lib.ListN.{length, drop, getD, set, length-set}
 use lib.Seq.{getD-set-same, getD-set-other}
 use Rattle.steps.specs.Clause.{Clause, DSequent}
 use Rattle.rows.specs.Rows.{clauseWords, from, clauseAt, clauses, clausesFrom, putClause, sequentWords, sequentAt, sequents, putSequent}
-use Rattle.rows.proofs.Lists.{from-same, from-next, from-length, drop-from}
+use Rattle.rows.proofs.Lists.{from-same, from-next, from-length, from-has, drop-from}
 
 -- m clauses, and k D-sequents
 pub clauses-length : (t : List ℕ) (m : ℕ) → length (clauses t m) ≡ m
@@ -24,6 +24,11 @@ sequents-length rs k = from-length (sequentAt rs) 0 k
 -- the same clauses are as many
 pub as-many : (t : List ℕ) (m k : ℕ) → clauses t m ≡ clauses t k → m ≡ k
 as-many t m k h = sym (clauses-length t m) ∙ ap length h ∙ clauses-length t k
+
+-- the clause of number i below m is one of the first m
+pub clause-among : (t : List ℕ) (m i : ℕ) → i < m → List·Memᴰ (clauseAt t i) (clauses t m)
+unfolding clauses
+clause-among t m i h = from-has (clauseAt t) 0 m i (omega arith) (omega arith)
 
 -- the clauses after the first m
 pub clauses-after : (t : List ℕ) (m k : ℕ) → drop m (clauses t k) ≡ clausesFrom t m (k - m)
@@ -93,11 +98,11 @@ module _ (t : List ℕ) (i : ℕ) (c : Clause) where
   put-clause-word n a b = rw (getD-set-other, getD-set-other)
 
   -- every other clause stays
-  put-clause-other : (n : ℕ) → n ≢ i → clauseAt (putClause t i c) n ≡ clauseAt t n
+  pub put-clause-other : (n : ℕ) → n ≢ i → clauseAt (putClause t i c) n ≡ clauseAt t n
   put-clause-other n h = rw (put-clause-word (2 * n) (omega arith) (omega arith), put-clause-word (2 * n + 1) (omega arith) (omega arith))
 
   -- the clause of number i is the one that was put
-  put-clause-here : clauseWords (i + 1) ≤ length t → clauseAt (putClause t i c) i ≡ c
+  pub put-clause-here : clauseWords (i + 1) ≤ length t → clauseAt (putClause t i c) i ≡ c
   unfolding putClause
   put-clause-here h =
       rw (

@@ -1,29 +1,23 @@
--- What is demanded of a row's status and of the test for broken clauses, each as a named type that is proved in `proofs/`: for every clause, decisions and set, of any width.
+-- What is demanded of the words in which the work table holds the tallies, each as a named type that is proved in `proofs/`.
 use mathlib.Core.Path.{_≡_}
-use Prim.Native.Nat.{ℕ}
-use Rattle.steps.specs.Clause.{Clause, Assignment, falsified, inactive}
-use Rattle.steps.specs.Enter.{unit}
-use Rattle.steps.specs.Merge.{covers}
-use Rattle.rows.specs.Status.{statusOf, isFalsified, isUnit, isInactive, falseLiterals}
+use mathlib.Core.List.{List, map}
+use Prim.Native.Nat.{ℕ, _<_}
+use lib.ListN.{getD}
+use Rattle.steps.specs.Clause.{Assignment}
+use Rattle.steps.specs.Tally.{Tally, tallyOf}
+use Rattle.rows.specs.Rows.{from, clauses}
+use Rattle.rows.specs.Tally.{wordOf, Tallied}
 
--- a clause is broken by its status
-abbrev pub FalsifiedByStatus : Type 0
-FalsifiedByStatus = (a : Assignment) (k : ℕ) (c : Clause) → falsified a c ≡ isFalsified (statusOf a k c)
+-- a word tells its tallies: two that differ have different words, as long as fewer than 128 decisions keep a rule
+abbrev pub WordTells : Type 0
+WordTells = (x y : Tally) → x .keepers < 128 → y .keepers < 128 → wordOf x ≡ wordOf y → x ≡ y
 
--- it is step 5's by its status
-abbrev pub UnitByStatus : Type 0
-UnitByStatus = (a : Assignment) (k : ℕ) (c : Clause) → unit a k c ≡ isUnit (statusOf a k c)
-
--- and it is out by its status
-abbrev pub InactiveByStatus : Type 0
-InactiveByStatus = (a : Assignment) (k : ℕ) (c : Clause) → inactive a k c ≡ isInactive (statusOf a k c)
-
--- a clause is broken exactly if it covers the clause of all false literals
-abbrev pub FalsifiedByCover : Type 0
-FalsifiedByCover = (a : Assignment) (c : Clause) → falsified a c ≡ covers c (falseLiterals a)
+-- where the table is tallied, its words are those of its rules' tallies, in order
+abbrev pub InOrder : Type 0
+InOrder =
+    (t q : List ℕ) (m : ℕ) (a : Assignment) (k : ℕ) → Tallied t q m a k →
+    from (λ i. getD q i 0) 0 m ≡ map wordOf (map (tallyOf a k) (clauses t m))
 
 pub record Demands : Type 0 where
-  pub falsified-by-status : FalsifiedByStatus
-  pub unit-by-status : UnitByStatus
-  pub inactive-by-status : InactiveByStatus
-  pub falsified-by-cover : FalsifiedByCover
+  pub word-tells : WordTells
+  pub in-order : InOrder

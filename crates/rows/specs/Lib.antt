@@ -1,5 +1,5 @@
--- The rows of the two work tables, and how the code's values stand for what `steps` speaks of.
+-- The rows of the work tables, and how the code's values stand for what `steps` speaks of.
 pub mod Values
 pub mod Rows
-pub mod Status
+pub mod Tally
 pub mod Demands

@@ -6,8 +6,6 @@ use Rattle.rows.specs.declared.clause.Clause.{Clause}
 use Rattle.rows.specs.declared.clause.Assignment.{Assignment}
 use Rattle.rows.specs.declared.records.DSequent.{DSequent}
 use Rattle.rows.specs.declared.state.Env.{Env}
-use Rattle.rows.specs.Status.{Status}
-use Rattle.rows.specs.declared.status.Status as code
 use Rattle.rows.specs.declared.table.Lookup.{Lookup}
 use Rattle.rows.specs.declared.table.Lookup.the-variants as lookup
 
@@ -22,9 +20,6 @@ sequentOf d = record { decisions = record { decided = d .decided; trues = d .tru
 
 abbrev pub envOf : Env → state.Env
 envOf e = record { n = e .vars; allowance = e .allowance; capacity = e .capacity }
-
-abbrev pub statusIn : code.Status → Status
-statusIn s = record { undecided = s .undecided; satisfied = s .satisfied; redundant = s .redundant }
 
 abbrev pub foundOf : Lookup → Option clause.Clause
 foundOf (lookup.Found c) = some (clauseOf c)

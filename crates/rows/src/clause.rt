@@ -1,6 +1,6 @@
 // What a clause is under a partial assignment: each function is its definition in `steps`.
 ghost use mathlib.Core.Path.{_≡_};
-ghost use Rattle.steps.specs.Clause.{literals as Literals, vars as Vars, keepers as Keepers, satisfied as Satisfied, falsified as Falsified, names as Names, undecidedIn, decide as Decide};
+ghost use Rattle.steps.specs.Clause.{literals as Literals, vars as Vars, keepers as Keepers, names as Names, undecidedIn, decide as Decide};
 ghost use Rattle.steps.specs.Merge.{covers as Covers, resolvent as Resolvent};
 ghost use Rattle.rows.specs.Values.{clauseOf, assignmentOf};
 
@@ -37,29 +37,11 @@ pub fn keepers(a: Assignment, c: Clause) -> u64
     (c.pos & a.trues) | (c.neg & words::minus(a.decided, a.trues))
 }
 
-// Kept: a decided variable makes a literal true.
-pub fn satisfied(a: Assignment, c: Clause) -> bool
-    ensures { λ r. ⌜ r ≡ Satisfied (assignmentOf a) (clauseOf c) ⌝ }
-{
-    keepers(a, c) != 0
-}
-
 // d covers c: every literal of d is one of c.
 pub fn covers(d: Clause, c: Clause) -> bool
     ensures { λ r. ⌜ r ≡ Covers (clauseOf d) (clauseOf c) ⌝ }
 {
     (words::minus(d.pos, c.pos) | words::minus(d.neg, c.neg)) == 0
-}
-
-// Broken: all variables are decided and all literals false, so that it covers the clause of all false literals.
-pub fn falsified(a: Assignment, c: Clause) -> bool
-    ensures { λ r. ⌜ r ≡ Falsified (assignmentOf a) (clauseOf c) ⌝ }
-{
-    let falses = Clause {
-        pos: words::minus(a.decided, a.trues),
-        neg: a.decided & a.trues,
-    };
-    covers(c, falses)
 }
 
 // The clause names a variable of k.

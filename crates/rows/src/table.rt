@@ -1,18 +1,21 @@
 // The clause table: m clauses, each two words, the positive literals and then the negative ones.
 ghost use mathlib.Core.Path.{_≡_};
-ghost use Prim.Native.Nat.{_+_, _≤_};
+ghost use mathlib.Core.Bool.{true, false};
+ghost use mathlib.Core.List.{List};
+ghost use Prim.Native.Nat.{ℕ, _+_, _≤_};
 ghost use lib.ListN.{length};
 ghost use Rattle.steps.specs.Lists.{any, find};
-ghost use Rattle.steps.specs.Clause.{falsified as Falsified};
+ghost use Rattle.words.specs.Words.{meets};
+ghost use Rattle.steps.specs.Clause.{Assignment as Decisions, falsified as Falsified};
 ghost use Rattle.steps.specs.Enter.{unit as Unit, falsifiedNaming};
+ghost use Rattle.steps.specs.Notes.{inPlay};
 ghost use Rattle.steps.specs.Merge.{cover as Cover};
-ghost use Rattle.steps.specs.Search.{isEmpty};
-ghost use Rattle.rows.specs.Values.{clauseOf, assignmentOf, foundOf};
+ghost use Rattle.rows.specs.Values.{clauseOf, foundOf};
 ghost use Rattle.rows.specs.Rows.{clauseWords, clauseAt, clauses, putClause};
+ghost use Rattle.rows.specs.Tally.{Tallied};
 use super::clause;
-use super::clause::Assignment;
 use super::clause::Clause;
-use super::status;
+use super::tally;
 
 // How many words a clause takes.
 pub const WORDS: usize = 2;
@@ -34,14 +37,14 @@ pub fn clause_at(t: &[u64], i: usize) -> Clause
     }
 }
 
-// Step 4: the decisions falsify a clause.
-pub fn any_falsified(t: &[u64], m: usize, a: Assignment) -> bool
-    requires { ⌜ clauseWords m ≤ length (now t) ⌝ }
-    ensures { λ r. ⌜ r ≡ any (Falsified (assignmentOf a)) (clauses (now (t .entry)) m) ⌝ }
+// Step 4, and step 1 where nothing is decided: the decisions falsify a clause.
+pub fn any_falsified(q: &[u64], m: usize) -> bool
+    requires { ⌜ m ≤ length (now q) ⌝ }
+    ensures { λ r. ⌜ ((t : List ℕ) (a : Decisions) (k : ℕ) → meets k (a .decided) ≡ false → Tallied t (now (q .entry)) m a k → r ≡ any (Falsified a) (clauses t m)) ⌝ }
 {
     let mut i = 0;
     while i < m {
-        if clause::falsified(a, clause_at(t, i)) {
+        if tally::is_falsified(q[i]) {
             return true;
         }
         i += 1;
@@ -49,18 +52,18 @@ pub fn any_falsified(t: &[u64], m: usize, a: Assignment) -> bool
     false
 }
 
-// Steps 2 and 7: the lowest-numbered falsified clause that names v. No clause names the empty word, which stands for a first side.
-pub fn falsified_naming(t: &[u64], m: usize, v: u64, a: Assignment) -> Lookup
-    requires { ⌜ clauseWords m ≤ length (now t) ⌝ }
-    ensures { λ r. ⌜ foundOf r ≡ falsifiedNaming v (assignmentOf a) (clauses (now (t .entry)) m) ⌝ }
+// Step 2: the lowest-numbered falsified clause that names v. No clause names the empty word, which stands for a first side.
+pub fn falsified_naming(t: &[u64], q: &[u64], m: usize, v: u64) -> Lookup
+    requires { ⌜ (clauseWords m ≤ length (now t)) × (m ≤ length (now q)) ⌝ }
+    ensures { λ r. ⌜ ((a : Decisions) (k : ℕ) → meets k (a .decided) ≡ false → Tallied (now (t .entry)) (now (q .entry)) m a k → foundOf r ≡ falsifiedNaming v a (clauses (now (t .entry)) m)) ⌝ }
 {
     if v == 0 {
         return Lookup::Nothing;
     }
     let mut i = 0;
     while i < m {
-        let c = clause_at(t, i);
-        if clause::falsified(a, c) {
+        if tally::is_falsified(q[i]) {
+            let c = clause_at(t, i);
             if clause::names(v, c) {
                 return Lookup::Found(c);
             }
@@ -70,48 +73,55 @@ pub fn falsified_naming(t: &[u64], m: usize, v: u64, a: Assignment) -> Lookup
     Lookup::Nothing
 }
 
-// Step 5: the lowest-numbered clause with exactly one undecided literal, not satisfied and naming nothing of k.
-pub fn unit_clause(t: &[u64], m: usize, a: Assignment, k: u64) -> Lookup
-    requires { ⌜ clauseWords m ≤ length (now t) ⌝ }
-    ensures { λ r. ⌜ foundOf r ≡ find (Unit (assignmentOf a) k) (clauses (now (t .entry)) m) ⌝ }
+// Step 5: the lowest-numbered clause with exactly one undecided literal, not satisfied and naming nothing redundant.
+pub fn unit_clause(t: &[u64], q: &[u64], m: usize) -> Lookup
+    requires { ⌜ (clauseWords m ≤ length (now t)) × (m ≤ length (now q)) ⌝ }
+    ensures { λ r. ⌜ ((a : Decisions) (k : ℕ) → Tallied (now (t .entry)) (now (q .entry)) m a k → foundOf r ≡ find (Unit a k) (clauses (now (t .entry)) m)) ⌝ }
 {
     let mut i = 0;
     while i < m {
-        let c = clause_at(t, i);
-        if status::is_unit(status::status_of(a, k, c)) {
-            return Lookup::Found(c);
+        if tally::is_unit(q[i]) {
+            return Lookup::Found(clause_at(t, i));
         }
         i += 1;
     }
     Lookup::Nothing
 }
 
-// Step 7: the lowest-numbered clause of the table that covers c. The first one ends the walk.
-pub fn cover(t: &[u64], m: usize, c: Clause) -> Lookup
-    requires { ⌜ clauseWords m ≤ length (now t) ⌝ }
-    ensures { λ r. ⌜ foundOf r ≡ Cover (clauseOf c) (clauses (now (t .entry)) m) ⌝ }
+// Step 7: the lowest-numbered clause that is in play with the literal of v and the sign.
+pub fn in_play(t: &[u64], q: &[u64], m: usize, v: u64, sign: bool) -> Lookup
+    requires { ⌜ (clauseWords m ≤ length (now t)) × (m ≤ length (now q)) ⌝ }
+    ensures { λ r. ⌜ ((a : Decisions) (k : ℕ) → Tallied (now (t .entry)) (now (q .entry)) m a k → foundOf r ≡ find (inPlay (record { var = v; sign = sign }) a k) (clauses (now (t .entry)) m)) ⌝ }
 {
     let mut i = 0;
     while i < m {
-        let d = clause_at(t, i);
-        if clause::covers(d, c) {
-            return Lookup::Found(d);
+        if tally::is_active(q[i]) {
+            let c = clause_at(t, i);
+            if words::meets(clause::literals(sign, c), v) {
+                return Lookup::Found(c);
+            }
         }
         i += 1;
     }
     Lookup::Nothing
 }
 
-// Step 1: the table holds the empty clause, which alone covers the empty clause.
-pub fn holds_empty(t: &[u64], m: usize) -> bool
-    requires { ⌜ clauseWords m ≤ length (now t) ⌝ }
-    ensures { λ r. ⌜ r ≡ any isEmpty (clauses (now (t .entry)) m) ⌝ }
+// Step 7: the lowest-numbered clause of the table that covers c. The decisions falsify c, and so every clause that covers it. The first one ends the walk.
+pub fn cover(t: &[u64], q: &[u64], m: usize, c: Clause) -> Lookup
+    requires { ⌜ (clauseWords m ≤ length (now t)) × (m ≤ length (now q)) ⌝ }
+    ensures { λ r. ⌜ ((a : Decisions) (k : ℕ) → meets k (a .decided) ≡ false → Falsified a (clauseOf c) ≡ true → Tallied (now (t .entry)) (now (q .entry)) m a k → foundOf r ≡ Cover (clauseOf c) (clauses (now (t .entry)) m)) ⌝ }
 {
-    let found = cover(t, m, Clause { pos: 0, neg: 0 });
-    match found {
-        Lookup::Found(_) => true,
-        Lookup::Nothing => false,
+    let mut i = 0;
+    while i < m {
+        if tally::is_falsified(q[i]) {
+            let d = clause_at(t, i);
+            if clause::covers(d, c) {
+                return Lookup::Found(d);
+            }
+        }
+        i += 1;
     }
+    Lookup::Nothing
 }
 
 // Puts the clause at number i.

@@ -2,4 +2,6 @@
 pub mod Branching
 pub mod Points
 pub mod Sides
+pub mod Seconds
 pub mod Handing
+pub mod Demands

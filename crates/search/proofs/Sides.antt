@@ -1,8 +1,8 @@
--- The stages of a branching as the code goes through them, each with what is known there, and what each way out comes to. The points of both sides keep
--- the shape of a point, the allowances and the room in the work tables (`steps`, `Points`); the ways out are the laws of `Branching`, with the number
--- of undecided variables as the depth: either side decides one more.
-use mathlib.Core.Path.{_≡_, ap, ap₂, sym, _∙_, subst, subst⁻¹}
-use mathlib.Core.Bool.{Bool, not}
+-- The first side of a branching as the code goes through it, stage by stage, each with what is known there, and what each way out comes to. The points of both sides
+-- keep the shape of a point, the allowances and the room in the work tables (`steps`, `Points`); the ways out are the laws of `Branching`, with the number of undecided
+-- variables as the depth: either side decides one more.
+use mathlib.Core.Path.{_≡_, ap, sym, _∙_, subst, subst⁻¹}
+use mathlib.Core.Bool.{Bool}
 use mathlib.Core.List.{List}
 use Prim.Native.Nat.{ℕ, suc, _+_, _≤_, _<_}
 use native.Mathlib.Numerals.{add-one}
@@ -11,25 +11,24 @@ use lib.Count.{ones}
 use lib.ListN.{length}
 use Rattle.words.specs.Words.{Within}
 use Rattle.steps.specs.Lists.{any}
-use Rattle.steps.specs.Clause.{decide, last, without, DSequent}
+use Rattle.steps.specs.Clause.{decide, last, DSequent}
 use Rattle.steps.specs.Clause as clause
-use Rattle.steps.specs.State.{State, Side as StepSide, Side.ended, Ending.outOfBranchings, undecided, live, recorded, counted}
+use Rattle.steps.specs.State.{State, Side as StepSide, Side.ended, Ending.outOfBranchings, undecided, redundant, live, counted}
 use Rattle.steps.specs.Enter.{Turn, Turn.branch, enter}
-use Rattle.steps.specs.Merge.{merge}
 use Rattle.steps.specs.Search.{isEmpty, search}
 use Rattle.steps.specs.Shape.{Shape, OneOf, TurnShape}
+use Rattle.steps.specs.Demands.{Free}
 use Rattle.steps.proofs.LockstepGrows.{turned, listed-enter}
 use Rattle.steps.proofs.Nesting.{undecided-one-fewer}
 use Rattle.steps.proofs.Places.{one-of-more}
 use Rattle.steps.proofs.ShapeEnter.{shape-enter}
-use Rattle.steps.proofs.ShapeKeep.{last-recorded, live-undecided}
-use Rattle.steps.proofs.ShapeSides.{shape-first, shape-second}
+use Rattle.steps.proofs.ShapeKeep.{last-recorded, records-at-most-n, live-undecided}
+use Rattle.steps.proofs.ShapeSides.{shape-first}
 use Rattle.rows.specs.Values.{assignmentOf, envOf}
-use Rattle.rows.specs.Rows.{clauses, sequents, stateOf}
-use Rattle.merge.specs.Sides.{sideOf}
-use Rattle.search.specs.Needs.{Point}
-use Rattle.merge.specs.Needs.{Mergeable}
-use Rattle.rows.specs.Rows.{Kept}
+use Rattle.rows.specs.Rows.{clauses, sequentWords, sequents, stateOf}
+use Rattle.rows.specs.Tally.{Tallied, TalliedAt, Changing}
+use Rattle.merge.specs.Sides.{sideOf, TalliedSide}
+use Rattle.search.specs.Needs.{Point, Held}
 use Rattle.rows.specs.declared.clause.Assignment.{Assignment}
 use Rattle.merge.specs.declared.Ending.{Ending}
 use Rattle.merge.specs.declared.Side.{Side}
@@ -38,9 +37,10 @@ use Rattle.rows.specs.declared.state.Counts.{Counts}
 use Rattle.rows.specs.declared.state.Env.{Env}
 use Rattle.search.proofs.Branching as branching
 use Rattle.search.proofs.Points.{up-point}
-use Rattle.rows.proofs.Tables.{as-many}
+use Rattle.rows.proofs.Tables.{as-many, sequents-length}
+use Rattle.merge.proofs.Joined.{branched-variable, branched-free}
 
--- a point with n undecided variables, and the branching over w, b first, that `enter` found there. It left the list in rs′
+-- a point with n undecided variables, and the branching over w, b first, that `enter` found there. It left the list in rs′ and the tallies in q′
 pub record Turned : Type 0 where
   pub t : List ℕ
   pub rs : List ℕ
@@ -53,28 +53,33 @@ pub record Turned : Type 0 where
   pub measure : ones (undecided (envOf e) (assignmentOf a)) ≡ n
   pub rs′ : List ℕ
   pub same : length rs′ ≡ length rs
+  pub q : List ℕ
+  pub places : e .capacity ≤ length q
+  pub q′ : List ℕ
+  pub same-tallies : length q′ ≡ length q
   pub w : ℕ
   pub b : Bool
   pub here : Counts
   pub turn : branch w b (stateOf t rs′ here) ≡ enter (envOf e) (assignmentOf a) v (stateOf t rs s)
+  pub tallied : TalliedAt t q′ rs′ (assignmentOf a) here
 
 -- what the search from the point comes to
-abbrev outcome : Turned → StepSide
+abbrev pub outcome : Turned → StepSide
 outcome x = search (envOf (x .e)) (ones (undecided (envOf (x .e)) (assignmentOf (x .a)))) (assignmentOf (x .a)) (x .v) (stateOf (x .t) (x .rs) (x .s))
 
 -- the state at the branching, and the counts of the first side
-abbrev found : Turned → State
+abbrev pub found : Turned → State
 found x = stateOf (x .t) (x .rs′) (x .here)
 
 abbrev opening : Turned → Counts
 opening x = record { clauses = x .here .clauses; records = x .here .records; branchings = x .here .branchings + 1 }
 
 -- the decisions of a side
-abbrev toward : Turned → Bool → clause.Assignment
+abbrev pub toward : Turned → Bool → clause.Assignment
 toward x b = decide (assignmentOf (x .a)) (x .w) b
 
 -- how many variables are undecided on the first side
-abbrev rest : Turned → ℕ
+abbrev pub rest : Turned → ℕ
 rest x = ones (undecided (envOf (x .e)) (toward x (x .b)))
 
 module _ (x : Turned) where
@@ -96,7 +101,7 @@ module _ (x : Turned) where
       (ap (λ (y : Turn). turned y .table) (x .turn) ∙ listed-enter (envOf (x .e)) (assignmentOf (x .a)) (x .v) (stateOf (x .t) (x .rs) (x .s)) .table)
 
   -- w is undecided
-  branched : OneOf (x .w) (undecided (envOf (x .e)) (assignmentOf (x .a)))
+  pub branched : OneOf (x .w) (undecided (envOf (x .e)) (assignmentOf (x .a)))
   branched =
       one-of-more
       (x .w)
@@ -105,23 +110,49 @@ module _ (x : Turned) where
       (turn-shape .1)
       (live-undecided (envOf (x .e)) (assignmentOf (x .a)) (found x))
 
+  -- so it can be decided in the tallies, and a decision on it withdrawn
+  pub free : Free (branched .var) (assignmentOf (x .a))
+  free = branched-free (envOf (x .e)) (assignmentOf (x .a)) (x .w) branched (x .point .shape .trues)
+
+  pub deciding : Changing (x .t) (x .q′) (x .here .clauses) (x .w) (λ a. a)
+  deciding =
+      record {
+        table = omega (arith, same-clauses, x .point .clauses, x .point .capacity);
+        variable = branched-variable (x .e) (x .a) (x .w) (x .point .vars) branched;
+        decisions = assignmentOf (x .a);
+        free = free;
+        struck = redundant (found x);
+        tallied = x .tallied;
+      }
+
+  -- the list there fits its table
+  pub here-fits : sequentWords (x .here .records) ≤ length (x .rs′)
+  here-fits =
+      let few : length (sequents (x .rs′) (x .here .records)) ≤ x .e .vars = records-at-most-n _ _ _ (turn-shape .0) in
+      omega (arith, few, sequents-length (x .rs′) (x .here .records), x .same, x .point .room)
+
   -- one variable fewer is undecided on either side
-  fewer : (b : Bool) → ones (undecided (envOf (x .e)) (assignmentOf (x .a))) ≡ suc (ones (undecided (envOf (x .e)) (toward x b)))
+  pub fewer : (b : Bool) → ones (undecided (envOf (x .e)) (assignmentOf (x .a))) ≡ suc (ones (undecided (envOf (x .e)) (toward x b)))
   fewer b = undecided-one-fewer (envOf (x .e)) (assignmentOf (x .a)) (x .w) b branched
 
   -- so the measure falls
-  falls : (d : Assignment) (b : Bool) → assignmentOf d ≡ toward x b → ones (undecided (envOf (x .e)) (assignmentOf d)) < x .n
+  pub falls : (d : Assignment) (b : Bool) → assignmentOf d ≡ toward x b → ones (undecided (envOf (x .e)) (assignmentOf d)) < x .n
   falls d b is = omega (arith, fewer b, ap (λ (y : clause.Assignment). ones (undecided (envOf (x .e)) y)) is, x .measure)
 
   -- stop 10
   pub spent : x .e .allowance ≤ x .here .branchings → ended outOfBranchings (assignmentOf (x .a)) (found x) ≡ outcome x
   spent l = branching.search-spent _ _ _ _ _ _ _ _ (x .point .none-empty) (sym (x .turn)) l
 
--- the first side opens, with the decisions a₁
+-- the first side opens, with the decisions a₁, the last D-sequent d and the tallies in q₁
 pub record Opened (x : Turned) : Type 0 where
   pub room : x .here .branchings < x .e .allowance
   pub a₁ : Assignment
   pub decided : assignmentOf a₁ ≡ toward x (x .b)
+  pub d : DSequent
+  pub last-is : d ≡ last (sequents (x .rs′) (x .here .records))
+  pub q₁ : List ℕ
+  pub same-tallies : length q₁ ≡ length (x .q′)
+  pub tallied : Tallied (x .t) q₁ (x .here .clauses) (toward x (x .b)) (redundant (found x))
 
 -- the measure on the first side, and its point
 pub first-falls : {x : Turned} (o : Opened x) → ones (undecided (envOf (x .e)) (assignmentOf (o .a₁))) < x .n
@@ -146,6 +177,26 @@ first-point {x} o =
           (shape-first (envOf (x .e)) (assignmentOf (x .a)) (x .w) (x .b) (found x) (turn-shape x .0) (turn-shape x .1)));
     }
 
+-- and its tallies
+pub first-held : {x : Turned} (o : Opened x) → Held (x .t) (o .q₁) (x .e) (o .a₁) (o .d .redundant) (opening x)
+first-held {x} o =
+    record {
+      places = omega (arith, x .places, x .same-tallies, o .same-tallies);
+      entering =
+          record {
+            undecided =
+                subst⁻¹
+                (λ (d : DSequent). Within (d .redundant) (undecided (envOf (x .e)) (assignmentOf (o .a₁))))
+                (o .last-is)
+                (last-recorded (envOf (x .e)) (assignmentOf (o .a₁)) (stateOf (x .t) (x .rs′) (opening x)) (first-point o .shape) .off);
+            tallied =
+                subst⁻¹
+                (λ (d : DSequent). Tallied (x .t) (o .q₁) (x .here .clauses) (assignmentOf (o .a₁)) (d .redundant))
+                (o .last-is)
+                (subst⁻¹ (λ (y : clause.Assignment). Tallied (x .t) (o .q₁) (x .here .clauses) y (redundant (found x))) (o .decided) (o .tallied));
+          };
+    }
+
 -- the first side's result, and the tables that it left
 pub record First {x : Turned} (o : Opened x) : Type 0 where
   pub t₁ : List ℕ
@@ -153,12 +204,15 @@ pub record First {x : Turned} (o : Opened x) : Type 0 where
   pub result : Side
   pub same-table : length t₁ ≡ length (x .t)
   pub same-list : length rs₁ ≡ length (x .rs′)
+  pub q₂ : List ℕ
+  pub same-tallies : length q₂ ≡ length (o .q₁)
+  pub tallied : TalliedSide t₁ q₂ rs₁ (o .a₁) result
   pub comes :
       sideOf t₁ rs₁ result
       ≡ search (envOf (x .e)) (ones (undecided (envOf (x .e)) (assignmentOf (o .a₁)))) (assignmentOf (o .a₁)) 0 (stateOf (x .t) (x .rs′) (opening x))
 
 -- the first side's result is the definition's
-first-comes :
+pub first-comes :
     {x : Turned} {o : Opened x} (f : First o) →
     sideOf (f .t₁) (f .rs₁) (f .result) ≡ search (envOf (x .e)) (rest x) (toward x (x .b)) 0 (counted (found x))
 first-comes {x} {o} f =
@@ -168,14 +222,22 @@ first-comes {x} {o} f =
     (λ (n : ℕ). search (envOf (x .e)) (rest x) (toward x (x .b)) 0 (record { table = found x .table; records = found x .records; branchings = n }))
     (add-one (x .here .branchings))
 
+-- where a side ends the run the tallies are those of its own decisions, whatever the decisions above
+pub ended-tallied : (t q rs : List ℕ) (a b : Assignment) (r : Side) {y : Ending} {d : Assignment} {u : Counts} → r ≡ side.Ended y d u →
+    TalliedSide t q rs a r → TalliedSide t q rs b r
+ended-tallied t q rs a b (side.Up s) told h = let z : _≡_ {A = ℕ} 0 1 = cc in absurd (omega arith)
+ended-tallied t q rs a b (side.Ended x c s) told h = h
+
 -- the first side ends the run
 pub first-ended :
     {x : Turned} {o : Opened x} (f : First o) (y : Ending) (d : Assignment) (u : Counts) → f .result ≡ side.Ended y d u →
-    sideOf (f .t₁) (f .rs₁) (f .result) ≡ outcome x
-first-ended {x} {o} f y d u told =
-    ap (sideOf (f .t₁) (f .rs₁)) told
-    ∙
-    branching.first-ended _ _ _ _ _ _ _ _ (x .point .none-empty) (sym (x .turn)) _ (fewer x (x .b)) (o .room) _ _ _ (sym (first-comes f) ∙ ap (sideOf (f .t₁) (f .rs₁)) told)
+    (sideOf (f .t₁) (f .rs₁) (f .result) ≡ outcome x) × TalliedSide (f .t₁) (f .q₂) (f .rs₁) (x .a) (f .result)
+first-ended {x} {o} f y d u told = (
+  ap (sideOf (f .t₁) (f .rs₁)) told
+      ∙
+      branching.first-ended _ _ _ _ _ _ _ _ (x .point .none-empty) (sym (x .turn)) _ (fewer x (x .b)) (o .room) _ _ _ (sym (first-comes f) ∙ ap (sideOf (f .t₁) (f .rs₁)) told),
+  ended-tallied (f .t₁) (f .q₂) (f .rs₁) (o .a₁) (x .a) (f .result) told (f .tallied),
+)
 
 -- the first side goes back up
 pub record FirstUp {x : Turned} {o : Opened x} (f : First o) : Type 0 where
@@ -187,126 +249,18 @@ pub one-point : {x : Turned} {o : Opened x} {f : First o} (u : FirstUp f) → Po
 one-point {x} {o} {f} u =
     up-point _ _ (first-point o) (f .same-table) (f .same-list) (sym (ap (sideOf (f .t₁) (f .rs₁)) (u .is)) ∙ f .comes)
 
--- the second side opens, with the decisions a₂ and the k D-sequents that `without` left in rs₂
-pub record Crossed {x : Turned} {o : Opened x} {f : First o} (u : FirstUp f) : Type 0 where
-  pub rs₂ : List ℕ
-  pub k : ℕ
-  pub same : length rs₂ ≡ length (f .rs₁)
-  pub kept : Kept (f .rs₁) (u .one .records) (x .w) rs₂ k
-  pub a₂ : Assignment
-  pub decided : assignmentOf a₂ ≡ toward x (not (x .b))
+-- the decision on w can be turned over in its tallies
+pub up-tallied : {x : Turned} {o : Opened x} {f : First o} (u : FirstUp f) → TalliedAt (f .t₁) (f .q₂) (f .rs₁) (toward x (x .b)) (u .one)
+up-tallied {x} {o} {f} u =
+    subst (λ (y : clause.Assignment). TalliedAt (f .t₁) (f .q₂) (f .rs₁) y (u .one)) (o .decided) (subst (TalliedSide (f .t₁) (f .q₂) (f .rs₁) (o .a₁)) (u .is) (f .tallied))
 
-module _ {x : Turned} {o : Opened x} {f : First o} {u : FirstUp f} where
-  -- the state in which the first side went back up, and the counts of the second side
-  abbrev one-state : Crossed u → State
-  one-state y = stateOf (f .t₁) (f .rs₁) (u .one)
-
-  abbrev crossing : Crossed u → Counts
-  crossing y = record { clauses = u .one .clauses; records = y .k; branchings = u .one .branchings }
-
-  -- its state is the definition's
-  second-state : (y : Crossed u) → stateOf (f .t₁) (y .rs₂) (crossing y) ≡ recorded (without (x .w) (one-state y .records)) (one-state y)
-  second-state y = ap (λ (l : List DSequent). recorded l (one-state y)) (y .kept .kept)
-
-  -- the measure on the second side, and its point
-  pub second-falls : (y : Crossed u) → ones (undecided (envOf (x .e)) (assignmentOf (y .a₂))) < x .n
-  second-falls y = falls x (y .a₂) (not (x .b)) (y .decided)
-
-  pub second-point : (y : Crossed u) → Point (f .t₁) (y .rs₂) (x .e) (y .a₂) (crossing y)
-  second-point y =
-      let p = one-point u in
-      record {
-        vars = p .vars;
-        capacity = p .capacity;
-        clauses = p .clauses;
-        branchings = p .branchings;
-        none-empty = p .none-empty;
-        room = omega (arith, y .same, p .room);
-        shape =
-            subst⁻¹
-            (λ (z : clause.Assignment). Shape (envOf (x .e)) z (stateOf (f .t₁) (y .rs₂) (crossing y)))
-            (y .decided)
-            (subst⁻¹
-            (λ (z : State). Shape (envOf (x .e)) (toward x (not (x .b))) z)
-            (second-state y)
-            (shape-second
-            (envOf (x .e))
-            (assignmentOf (x .a))
-            (x .w)
-            (x .b)
-            (one-state y)
-            (subst (λ (z : clause.Assignment). Shape (envOf (x .e)) z (one-state y)) (o .decided) (p .shape))));
-      }
-
--- the second side's result, and the tables that it left
-pub record Second {x : Turned} {o : Opened x} {f : First o} {u : FirstUp f} (y : Crossed u) : Type 0 where
-  pub t₂ : List ℕ
-  pub rs₃ : List ℕ
-  pub result : Side
-  pub same-table : length t₂ ≡ length (f .t₁)
-  pub same-list : length rs₃ ≡ length (y .rs₂)
-  pub comes :
-      sideOf t₂ rs₃ result
-      ≡ search (envOf (x .e)) (ones (undecided (envOf (x .e)) (assignmentOf (y .a₂)))) (assignmentOf (y .a₂)) (x .w) (stateOf (f .t₁) (y .rs₂) (crossing y))
-
-module _ {x : Turned} {o : Opened x} {f : First o} {u : FirstUp f} {y : Crossed u} (z : Second y) where
-  -- the work tables have the lengths that they had at the point
-  pub tables-same : length (z .t₂) ≡ length (x .t)
-  tables-same = z .same-table ∙ f .same-table
-
-  pub lists-same : length (z .rs₃) ≡ length (x .rs)
-  lists-same = z .same-list ∙ y .same ∙ f .same-list ∙ x .same
-
-  -- the second side's result is the definition's
-  second-comes :
-      sideOf (z .t₂) (z .rs₃) (z .result)
-      ≡ search (envOf (x .e)) (rest x) (toward x (not (x .b))) (x .w) (recorded (without (x .w) (one-state y .records)) (one-state y))
-  second-comes =
-      let as-many : ones (undecided (envOf (x .e)) (toward x (not (x .b)))) ≡ rest x = omega (arith, fewer x (x .b), fewer x (not (x .b))) in
-      z .comes
-      ∙ ap (λ (d : clause.Assignment). search (envOf (x .e)) (ones (undecided (envOf (x .e)) d)) d (x .w) (stateOf (f .t₁) (y .rs₂) (crossing y))) (y .decided)
-      ∙ ap₂ (λ (n : ℕ) (s : State). search (envOf (x .e)) n (toward x (not (x .b))) (x .w) s) as-many (second-state y)
-
-  -- the first side went back up
-  first-up : search (envOf (x .e)) (rest x) (toward x (x .b)) 0 (counted (found x)) ≡ sideOf (f .t₁) (f .rs₁) (side.Up (u .one))
-  first-up = sym (first-comes f) ∙ ap (sideOf (f .t₁) (f .rs₁)) (u .is)
-
-  -- the second side ends the run
-  pub second-ended : (i : Ending) (d : Assignment) (s : Counts) → z .result ≡ side.Ended i d s → sideOf (z .t₂) (z .rs₃) (z .result) ≡ outcome x
-  second-ended i d s told =
-      ap (sideOf (z .t₂) (z .rs₃)) told
-      ∙
-      branching.second-ended _ _ _ _ _ _ _ _ (x .point .none-empty) (sym (x .turn)) _ (fewer x (x .b)) (o .room) _ first-up _ _ _ (sym second-comes ∙ ap (sideOf (z .t₂) (z .rs₃)) told)
-
-  -- the second side goes back up; r is the first side's last decisions
-  module _ (two : Counts) (is : z .result ≡ side.Up two) (r : DSequent) (last-is : r ≡ last (sequents (f .rs₁) (u .one .records))) where
-    -- what `merge` asks
-    pub mergeable : Mergeable (z .t₂) (z .rs₃) (x .e) (x .a) (x .w) (x .b) (r .decisions .decided) two
-    mergeable =
-        let p : Point (z .t₂) (z .rs₃) (x .e) (y .a₂) two = up-point _ _ (second-point y) (z .same-table) (z .same-list) (sym (ap (sideOf (z .t₂) (z .rs₃)) is) ∙ z .comes) in
-        record {
-          vars = p .vars;
-          capacity = p .capacity;
-          clauses = p .clauses;
-          room = p .room;
-          branched = branched x;
-          trues = x .point .shape .trues;
-          first =
-              subst⁻¹
-              (λ (d : DSequent). Within (d .decisions .decided) (toward x (x .b) .decided))
-              last-is
-              (subst
-              (λ (d : clause.Assignment). Within (last (sequents (f .rs₁) (u .one .records)) .decisions .decided) (d .decided))
-              (o .decided)
-              (last-recorded (envOf (x .e)) (assignmentOf (o .a₁)) (one-state y) (one-point u .shape) .on));
-          second = subst (λ (d : clause.Assignment). Shape (envOf (x .e)) d (stateOf (z .t₂) (z .rs₃) two)) (y .decided) (p .shape);
-        }
-
-    -- step 7
-    pub merged : merge (envOf (x .e)) (assignmentOf (x .a)) (x .w) (x .b) (r .decisions .decided) (stateOf (z .t₂) (z .rs₃) two) ≡ outcome x
-    merged =
-        ap
-        (λ (d : DSequent). merge (envOf (x .e)) (assignmentOf (x .a)) (x .w) (x .b) (d .decisions .decided) (stateOf (z .t₂) (z .rs₃) two))
-        last-is
-        ∙
-        branching.both-up _ _ _ _ _ _ _ _ (x .point .none-empty) (sym (x .turn)) _ (fewer x (x .b)) (o .room) _ first-up _ (sym second-comes ∙ ap (sideOf (z .t₂) (z .rs₃)) is)
+pub turning : {x : Turned} {o : Opened x} {f : First o} (u : FirstUp f) → Changing (f .t₁) (f .q₂) (u .one .clauses) (x .w) (λ a. decide a (x .w) (x .b))
+turning {x} {o} {f} u =
+    record {
+      table = omega (arith, one-point u .capacity, one-point u .clauses);
+      variable = branched-variable (x .e) (x .a) (x .w) (x .point .vars) (branched x);
+      decisions = assignmentOf (x .a);
+      free = free x;
+      struck = redundant (stateOf (f .t₁) (f .rs₁) (u .one));
+      tallied = up-tallied u;
+    }

@@ -11,7 +11,7 @@ ghost use Rattle.answer.specs.Answer.{endOf};
 ghost use Rattle.rows.specs.Values.{envOf};
 ghost use Rattle.rows.specs.Rows.{clauses, sequentWords, sequents, stateOf};
 ghost use Rattle.merge.specs.Sides.{endingOf, sideOf};
-ghost use Rattle.search.specs.Values.{tallyFrom, Handed};
+ghost use Rattle.search.specs.Values.{tallyFrom, Handed, LeftTallied};
 ghost use Rattle.search.specs.Needs.{Startable};
 use super::branch;
 use answer::Answer;
@@ -24,6 +24,7 @@ use rows::records::DSequent;
 use rows::state::Counts;
 use rows::state::Env;
 use rows::table;
+use rows::tallies;
 
 // The counts, of a table of which m clauses are book and order.
 fn tally(s: Counts, m: usize) -> Tally
@@ -101,11 +102,11 @@ fn finish(rs: &mut [u64], vars: u32, m: usize, side: Side) -> Answer
     }
 }
 
-// The run over the first m clauses of the table, which are book and order. Step 1 is asked here: below the starting point the empty clause can only be one that
-// step 7 has just derived, which ends the run there.
-pub fn run(t: &mut [u64], rs: &mut [u64], e: Env, m: usize) -> Answer
-    requires { ⌜ Startable (now t) (now rs) e m ⌝ }
-    ensures { λ r. ⌜ Handed (now (t .exit)) (now (rs .exit)) m r (Finish (e .vars) m (search (envOf e) (e .vars) noDecisions 0 (start (clauses (now (t .entry)) m)))) ⌝ }
+// The run over the first m clauses of the table, which are book and order. Step 1 is asked here, where only the empty clause is falsified: below the starting point
+// it can only be one that step 7 has just derived, which ends the run there.
+pub fn run(t: &mut [u64], q: &mut [u64], rs: &mut [u64], e: Env, m: usize) -> Answer
+    requires { ⌜ Startable (now t) (now q) (now rs) e m ⌝ }
+    ensures { λ r. ⌜ Handed (now (t .exit)) (now (rs .exit)) m r (Finish (e .vars) m (search (envOf e) (e .vars) noDecisions 0 (start (clauses (now (t .entry)) m)))) × LeftTallied (now (q .exit)) (search (envOf e) (e .vars) noDecisions 0 (start (clauses (now (t .entry)) m))) ⌝ }
 {
     let none = Assignment {
         decided: 0,
@@ -116,9 +117,10 @@ pub fn run(t: &mut [u64], rs: &mut [u64], e: Env, m: usize) -> Answer
         records: 0,
         branchings: 0,
     };
-    if table::holds_empty(t, m) {
+    tallies::start(t, q, m);
+    if table::any_falsified(q, m) {
         return finish(rs, e.vars, m, Side::Ended(Ending::Cannot, none, begin));
     }
-    let side = branch::branch(t, rs, e, none, 0, begin);
+    let side = branch::branch(t, q, rs, e, none, 0, 0, begin);
     finish(rs, e.vars, m, side)
 }

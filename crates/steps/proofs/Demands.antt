@@ -10,6 +10,8 @@ use Rattle.steps.proofs.Nesting.{one-deeper, never-passes}
 use Rattle.steps.proofs.Sweeping.{sweep-tests, sweep-ends}
 use Rattle.steps.proofs.NotesTaken.{notes-taken}
 use Rattle.steps.proofs.Notes.{noted-exactly, same-choice, same-sweep}
+use Rattle.steps.proofs.TalliesLeft.{tallies-left}
+use Rattle.steps.proofs.Tally.{by-tally, tallying}
 use Rattle.steps.proofs.Parents.{never-deeper, parents-exist}
 use Rattle.steps.proofs.Covers.{covering}
 use Rattle.steps.proofs.Resolving.{resolving}
@@ -39,6 +41,9 @@ demands =
       covering = covering;
       resolving = resolving;
       never-covered = never-covered;
+      by-tally = by-tally;
+      tallying = tallying;
+      tallies-left = tallies-left;
       marked-cases = marked-cases;
       further-cases = further-cases;
       covered-cases = covered-cases;

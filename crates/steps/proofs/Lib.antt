@@ -12,6 +12,8 @@ pub mod ShapeSweep
 pub mod Sweeping
 pub mod NotesTaken
 pub mod Notes
+pub mod TalliesLeft
+pub mod Tally
 pub mod ShapeEnter
 pub mod ShapeSides
 pub mod ShapeMerge

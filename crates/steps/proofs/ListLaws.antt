@@ -45,6 +45,15 @@ pub none-found : {A : Type 0} (p : A → Bool) (t : List A) → ((y : A) → Lis
 none-found p [] f = refl
 none-found p (y ∷ t) f = rw (f y (List·Memᴰ·head refl), find) (none-found p t (λ z m. f z (List·Memᴰ·tail m)))
 
+-- two tests that say the same of every element find the same
+pub find-same : {A : Type 0} (p q : A → Bool) (t : List A) → ((y : A) → List·Memᴰ y t → p y ≡ q y) → find p t ≡ find q t
+find-same p q [] f = refl
+find-same {A} p q (y ∷ t) f = go (q y) refl (find-same p q t (λ z m. f z (List·Memᴰ·tail m)))
+  where
+    go : (b : Bool) → q y ≡ b → find p t ≡ find q t → find p (y ∷ t) ≡ find q (y ∷ t)
+    go true e below = rw (f y (List·Memᴰ·head refl), e, find) refl
+    go false e below = rw (f y (List·Memᴰ·head refl), e, find) below
+
 -- some element passes
 pub any-true : {A : Type 0} (p : A → Bool) (l : List A) → any p l ≡ true → (a : A) × List·Memᴰ a l × (p a ≡ true)
 any-true p [] e = absurd (false≢true e)

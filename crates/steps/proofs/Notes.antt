@@ -9,16 +9,16 @@ use Prim.Native.Nat.{ℕ, zero, suc, _^_}
 use borrow.Author.Tests.{not-true}
 use lib.Bits.{bitOr, or-zero-r}
 use Rattle.words.specs.Words.{has, meets, lowest, members}
-use Rattle.words.proofs.Truth.{and-left, and-right, and-both}
+use Rattle.words.proofs.Truth.{both-ways, refuted, and-left, and-right, and-both}
 use Rattle.words.proofs.Sets.{zero-meets}
 use Rattle.words.proofs.Unions.{or-meets, meets-bit}
-use Rattle.steps.specs.Lists.{any, orElse}
+use Rattle.steps.specs.Lists.{any, find, orElse}
 use Rattle.steps.specs.Clause.{Clause, literals, Assignment, keepers, satisfied, names, inactive, last}
 use Rattle.steps.specs.State.{State, redundant, live}
 use Rattle.steps.specs.Sweep.{allInactive, monotone, Found, Found.nothing, Found.variable, firstMonotone, strike, sweepOn, sweep}
-use Rattle.steps.specs.Notes.{Notes, noted, note, walk, notes, Literal, choice, keeper, gather, foundBy, rounds}
+use Rattle.steps.specs.Notes.{Notes, noted, note, walk, notes, Literal, choice, keeper, inPlay, gather, foundBy, rounds}
 use Rattle.steps.specs.Demands.{Noted, SameChoice, SameSweep}
-use Rattle.steps.proofs.ListLaws.{any-true, any-intro}
+use Rattle.steps.proofs.ListLaws.{find-some, find-none, any-true, any-intro}
 
 -- what a clause adds to what is gathered for the literal l
 module _ (a : Assignment) (k : ℕ) (c : Clause) (l : Literal) where
@@ -38,12 +38,15 @@ module _ (a : Assignment) (k : ℕ) (c : Clause) (l : Literal) where
   adds-keeper h n = rw (h, n, keeper)
 
 module _ (a : Assignment) (k : ℕ) (b : Bool) (w : ℕ) where
-  -- a clause that is not inactive has w's literal
-  abbrev inPlay : Clause → Bool
-  inPlay c = not (inactive a k c) && meets (literals b c) w
+  abbrev literal : Literal
+  literal = record { var = w; sign = b }
+
+  -- the clause is in play with w's literal
+  abbrev playing : Clause → Bool
+  playing c = inPlay literal a k c
 
   -- a clause's turn adds that
-  note-meets : (c : Clause) (x : Notes) → meets (noted b (note a k c x)) w ≡ (meets (noted b x) w || inPlay c)
+  note-meets : (c : Clause) (x : Notes) → meets (noted b (note a k c x)) w ≡ (meets (noted b x) w || playing c)
   unfolding note
   note-meets c x = go b (inactive a k c) refl
     where
@@ -53,16 +56,16 @@ module _ (a : Assignment) (k : ℕ) (b : Bool) (w : ℕ) where
       go false false e = rw (e, note) (or-meets (x .neg) (c .neg) w)
 
   -- and the rest of a walk, for each clause
-  walk-meets : (x : Notes) (t : List Clause) → meets (noted b (walk a k x t)) w ≡ (meets (noted b x) w || any inPlay t)
+  walk-meets : (x : Notes) (t : List Clause) → meets (noted b (walk a k x t)) w ≡ (meets (noted b x) w || any playing t)
   unfolding walk
   walk-meets x [] = sym (or-false (meets (noted b x) w))
   walk-meets x (c ∷ cs) =
-      walk-meets (note a k c x) cs ∙ ap (λ (p : Bool). p || any inPlay cs) (note-meets c x) ∙ or-assoc (meets (noted b x) w) (inPlay c) (any inPlay cs)
+      walk-meets (note a k c x) cs ∙ ap (λ (p : Bool). p || any playing cs) (note-meets c x) ∙ or-assoc (meets (noted b x) w) (playing c) (any playing cs)
 
   -- so w meets the notes of a walk exactly if a clause is in play with its literal
-  notes-meets : (t : List Clause) → meets (noted b (notes a k t)) w ≡ any inPlay t
+  notes-meets : (t : List Clause) → meets (noted b (notes a k t)) w ≡ any playing t
   unfolding notes
-  notes-meets t = walk-meets _ t ∙ ap (λ (p : Bool). p || any inPlay t) (none-yet b)
+  notes-meets t = walk-meets _ t ∙ ap (λ (p : Bool). p || any playing t) (none-yet b)
     where
       none-yet : (b : Bool) → meets (noted b (record { pos = 0; neg = 0 })) w ≡ false
       none-yet true = zero-meets w
@@ -71,9 +74,6 @@ module _ (a : Assignment) (k : ℕ) (b : Bool) (w : ℕ) where
   -- by the same clauses the test fails, and without one it gives what is gathered
   abbrev told : Bool → ℕ → Option ℕ
   told p r = elim p as (λ _. Option ℕ) [ true ↦ none | false ↦ some r ]
-
-  abbrev literal : Literal
-  literal = record { var = w; sign = b }
 
   -- a clause that adds no decision is passed over
   skipped : (r : ℕ) (c : Clause) (cs : List Clause) → keeper literal a k c ≡ 0 → gather literal a k r (c ∷ cs) ≡ gather literal a k r cs
@@ -85,14 +85,14 @@ module _ (a : Assignment) (k : ℕ) (b : Bool) (w : ℕ) where
   unfolding gather
   added r x c cs h = ap (λ (y : ℕ). gather literal a k (bitOr r y) cs) h
 
-  test-told : (r : ℕ) (t : List Clause) → allInactive b w a k r t ≡ told (any inPlay t) (gather literal a k r t)
+  test-told : (r : ℕ) (t : List Clause) → allInactive b w a k r t ≡ told (any playing t) (gather literal a k r t)
   unfolding allInactive gather inactive
   test-told r [] = refl
   test-told r (c ∷ cs) = go (meets (literals b c) w) refl (names k c) refl (satisfied a c) refl (λ r. test-told r cs)
     where
       go : (p : Bool) → meets (literals b c) w ≡ p → (n : Bool) → names k c ≡ n → (s : Bool) → satisfied a c ≡ s
-          → ((r : ℕ) → allInactive b w a k r cs ≡ told (any inPlay cs) (gather literal a k r cs))
-          → allInactive b w a k r (c ∷ cs) ≡ told (any inPlay (c ∷ cs)) (gather literal a k r (c ∷ cs))
+          → ((r : ℕ) → allInactive b w a k r cs ≡ told (any playing cs) (gather literal a k r cs))
+          → allInactive b w a k r (c ∷ cs) ≡ told (any playing (c ∷ cs)) (gather literal a k r (c ∷ cs))
       go false p n en s es rest = rw (skipped r c cs (without-literal a k c literal p), p, en, es, and-false (not (s || n)), allInactive) (rest r)
       go true p true en s es rest = rw (skipped r c cs (naming-redundant a k c literal en), p, en, es, or-true s, allInactive) (rest r)
       go true p false en true es rest = rw (added r (lowest (keepers a c)) c cs (adds-keeper a k c literal p en), p, en, es, allInactive) (rest (bitOr r (lowest (keepers a c))))
@@ -105,16 +105,28 @@ module _ (a : Assignment) (k : ℕ) (b : Bool) (w : ℕ) where
   pub test-fails : (r : ℕ) (t : List Clause) → meets (noted b (notes a k t)) w ≡ true → allInactive b w a k r t ≡ none
   test-fails r t h = test-told r t ∙ ap (λ (p : Bool). told p (gather literal a k r t)) (sym (notes-meets t) ∙ h)
 
+  -- it passes too where no clause is in play with the literal, and fails where one is
+  pub none-in-play : (r : ℕ) (t : List Clause) → find playing t ≡ none → allInactive b w a k r t ≡ some (gather literal a k r t)
+  none-in-play r t f =
+      test-told r t
+      ∙ ap (λ (p : Bool). told p (gather literal a k r t))
+      (refuted (any playing t) (λ h. let m = any-true playing t h in both-ways (playing (m .0)) (m .2) (find-none playing t f (m .0) (m .1))))
+
+  pub some-in-play : (r : ℕ) (t : List Clause) (c : Clause) → find playing t ≡ some c → allInactive b w a k r t ≡ none
+  some-in-play r t c f =
+      let m = find-some playing t c f in
+      test-told r t ∙ ap (λ (p : Bool). told p (gather literal a k r t)) (any-intro playing t c (m .0) (m .1))
+
 -- noted exactly if a clause that is not inactive has the literal
 pub noted-exactly : Noted
 noted-exactly a k t b v = (some-has, is-noted)
   where
-    tells : has (noted b (notes a k t)) v ≡ any (inPlay a k b (2 ^ v)) t
+    tells : has (noted b (notes a k t)) v ≡ any (playing a k b (2 ^ v)) t
     tells = sym (meets-bit (noted b (notes a k t)) v) ∙ notes-meets a k b (2 ^ v) t
 
     some-has : has (noted b (notes a k t)) v ≡ true → (c : Clause) × List·Memᴰ c t × (inactive a k c ≡ false) × (has (literals b c) v ≡ true)
     some-has h =
-        let m = any-true (inPlay a k b (2 ^ v)) t (sym tells ∙ h) in (
+        let m = any-true (playing a k b (2 ^ v)) t (sym tells ∙ h) in (
           m .0,
           m .1,
           not-true (inactive a k (m .0)) (and-left (not (inactive a k (m .0))) (meets (literals b (m .0)) (2 ^ v)) (m .2)),
@@ -125,7 +137,7 @@ noted-exactly a k t b v = (some-has, is-noted)
     is-noted (c, m, i, h) =
         tells
         ∙ any-intro
-        (inPlay a k b (2 ^ v))
+        (playing a k b (2 ^ v))
         t
         c
         m

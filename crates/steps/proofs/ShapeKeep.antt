@@ -4,7 +4,7 @@
 use mathlib.Core.Path.{_≡_, refl, ap}
 use mathlib.Core.Logic.{_≢_, ⊎-elim}
 use mathlib.Core.Bool.{true, false}
-use mathlib.Core.List.{List, [], _∷_, List·Memᴰ·append-cases, List·Memᴰ·eq-of-singleton}
+use mathlib.Core.List.{List, [], _∷_, _++_, List·Memᴰ·append-cases, List·Memᴰ·eq-of-singleton}
 use Prim.Native.Nat.{ℕ, _+_, _≤_, _<_}
 use native.Mathlib.Omega.{arith}
 use lib.Count.{ones}
@@ -15,7 +15,7 @@ use Rattle.words.proofs.Sets.{within-zero, within-trans, minus-within, restrict
 use Rattle.words.proofs.Count.{ones-zero, ones-within, ones-strict, ones-firstOf}
 use Rattle.steps.specs.Clause.{Clause, Assignment, restrict, DSequent, noDSequent, lastOr, last}
 use Rattle.steps.specs.State.{Env, State, undecided, redundant, live, append, added}
-use Rattle.steps.specs.Shape.{Proper, Recorded, Growing, Shape, OneOf}
+use Rattle.steps.specs.Shape.{Proper, AllProper, Recorded, Growing, Shape, OneOf}
 use Rattle.steps.proofs.Places.{one-within, one-of-more}
 use Rattle.steps.proofs.ShapeLists.{last-has, growing-append, last-append}
 
@@ -99,13 +99,16 @@ shape-append e a r k s h on off more new =
     new-one : DSequent
     new-one = record { decisions = restrict a r; redundant = k }
 
--- one more clause
+-- one more proper clause
+pub proper-added : (n : ℕ) (c : Clause) (t : List Clause) → AllProper n t → Proper n c → AllProper n (t ++ (c ∷ []))
+proper-added n c t h p d m = ⊎-elim (h d) (λ m′. let is : d ≡ c = List·Memᴰ·eq-of-singleton m′ in rw is p) (List·Memᴰ·append-cases t m)
+
 pub shape-added : (e : Env) (a : Assignment) (c : Clause) (s : State) → Shape e a s → Proper (e .n) c → Shape e a (added c s)
 shape-added e a c s h p =
     record {
       trues = h .trues;
       decided = h .decided;
-      clauses = λ d m. ⊎-elim (h .clauses d) (λ m′. let is : d ≡ c = List·Memᴰ·eq-of-singleton m′ in rw is p) (List·Memᴰ·append-cases (s .table) m);
+      clauses = proper-added (e .n) c (s .table) (h .clauses) p;
       records = h .records;
       growing = h .growing;
     }

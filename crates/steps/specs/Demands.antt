@@ -8,18 +8,20 @@ use mathlib.Core.List.{List, [], _∷_, _++_, List·Memᴰ}
 use mathlib.Core.Logic.{_⊎_, _↔_}
 use mathlib.Core.Option.{some, none}
 use Prim.Native.Nat.{ℕ, suc, _+_, _-_, _^_, _≤_, _<_}
+use lib.Bits.{bitOr}
 use lib.Count.{ones}
 use lib.ListN.{length}
-use Rattle.words.specs.Words.{has, meets, firstOf, members, Within}
-use Rattle.steps.specs.Clause.{Clause, literals, vars, Assignment, decide, inactive, DSequent, last}
+use Rattle.words.specs.Words.{isZero, has, meets, firstOf, members, Within}
+use Rattle.steps.specs.Clause.{Clause, literals, vars, Assignment, decide, satisfied, falsified, inactive, DSequent, last}
 use Rattle.steps.specs.State.{Env, State, Ending, Ending.can, Ending.cannot, Ending.outOfBranchings, Ending.outOfClauses, Side, Side.up, Side.ended, undecided, redundant, live, append, added}
 use Rattle.steps.specs.Sweep.{inactiveBy, monotone, Found.nothing, Found.variable, firstMonotone, sweep}
 use Rattle.steps.specs.Notes.{noted, notes, picked, rounds}
-use Rattle.steps.specs.Enter.{Turn.branch, falsifiedNaming, enter}
+use Rattle.steps.specs.Tally.{tallyOf, talliesLeft, isFalsified, isUnit, isInactive, decided, withdrawn, struckBy, unstruck}
+use Rattle.steps.specs.Enter.{Turn.branch, unit, falsifiedNaming, enter}
 use Rattle.steps.specs.Merge.{covers, resolvent, join, merge}
 use Rattle.steps.specs.Search.{search}
-use Rattle.steps.specs.Run.{Assumptions, Outcome, given, noDecisions, start, run}
-use Rattle.steps.specs.Marked.{clause, sequent, order, struck, Agree, C, N, P, Q, marked, further, covered}
+use Rattle.steps.specs.Run.{Assumptions, Outcome, given, noDecisions, start, searched, run}
+use Rattle.steps.specs.Marked.{clause, sequent, order, tally, struck, Agree, C, N, P, Q, W, marked, further, covered}
 use Rattle.steps.specs.Reached.{Reached, Merges}
 use Rattle.steps.specs.Shape.{Input, Growing, Shape, OneOf}
 use Rattle.steps.specs.Meaning.{Buildable, Follows, Holds}
@@ -277,6 +279,46 @@ NeverCovered =
     (n : ℕ) (book : List Clause) (o : Assumptions) (allowance places : ℕ) (before after : List Clause) (c : Clause) →
     run n book o allowance places .derived ≡ before ++ (c ∷ after) → NoneCovers (given book o ++ before) c
 
+-- ---- tallies
+
+-- a rule is kept, broken, step 5's or out as its tallies say. For all decisions a, every struck set k and every rule c, of any width
+pub record ByTally : Type 0 where
+  pub kept : (a : Assignment) (k : ℕ) (c : Clause) → satisfied a c ≡ not (isZero (tallyOf a k c .keepers))
+  pub broken : (a : Assignment) (k : ℕ) (c : Clause) → falsified a c ≡ isFalsified (tallyOf a k c)
+  pub single : (a : Assignment) (k : ℕ) (c : Clause) → unit a k c ≡ isUnit (tallyOf a k c)
+  pub out : (a : Assignment) (k : ℕ) (c : Clause) → inactive a k c ≡ isInactive (tallyOf a k c)
+
+-- the option of number v is not decided, and fitted options are decided ones
+pub record Free (v : ℕ) (a : Assignment) : Type 0 where
+  pub undecided : has (a .decided) v ≡ false
+  pub trues : Within (a .trues) (a .decided)
+
+-- from a rule's tallies before a change come those after it: deciding v, withdrawing that decision, striking v, and a change of the struck set from k to another
+pub record Tallying : Type 0 where
+  pub decides : (a : Assignment) (k v : ℕ) (b : Bool) (c : Clause) → Free v a → tallyOf (decide a (2 ^ v) b) k c ≡ decided v b c (tallyOf a k c)
+  pub withdraws : (a : Assignment) (k v : ℕ) (b : Bool) (c : Clause) → Free v a → tallyOf a k c ≡ withdrawn v b c (tallyOf (decide a (2 ^ v) b) k c)
+  pub strikes : (a : Assignment) (k v : ℕ) (c : Clause) → tallyOf a (bitOr k (2 ^ v)) c ≡ struckBy v c (tallyOf a k c)
+  pub unstrikes : (a : Assignment) (k other : ℕ) (c : Clause) → tallyOf a other c ≡ unstruck other c (tallyOf a k c)
+
+-- the tallies where runs went up or ended (`talliesLeft`), rule by rule: undecided entries, decisions that keep it, and whether it names a struck option
+pub record TalliesLeft : Type 0 where
+  -- "can", with option 1 left out, and options 2 and 3 struck
+  pub can : talliesLeft noDecisions (searched 3 Q 1 0) ≡ tally 1 0 true ∷ tally 1 1 true ∷ tally 2 0 true ∷ []
+  -- "cannot", where the empty rule is derived: nothing is decided, and nothing struck yet. The list that replaces this one strikes option 1, and by it the rules 1 and
+  -- not 1 would name a struck option
+  pub cannot : talliesLeft noDecisions (searched 1 C 1 1) ≡ tally 1 0 false ∷ tally 1 0 false ∷ tally 0 0 false ∷ []
+  -- stop 10 in a second side, with option 1 fitted. The fifth rule, 1, was derived when the first side came together
+  pub branchings :
+      talliesLeft noDecisions (searched 2 W 2 3) ≡ tally 1 1 false ∷ tally 1 0 false ∷ tally 1 1 false ∷ tally 1 0 false ∷ tally 0 1 false ∷ []
+  -- stop 11 where both sides come together at the starting point: nothing is decided, and option 2 struck
+  pub places :
+      talliesLeft noDecisions (searched 2 W 3 2) ≡
+      tally 2 0 true ∷ tally 2 0 true ∷ tally 2 0 true ∷ tally 2 0 true ∷ tally 1 0 false ∷ tally 1 0 false ∷ []
+  -- two decisions keep the rule 1 or 2. One is withdrawn, and the other keeps it still
+  pub kept-twice : withdrawn 1 true (clause 3 0) (tally 0 2 false) ≡ tally 1 1 false
+  -- it names a struck option, and the record that struck it is dropped
+  pub dropped : unstruck 0 (clause 3 0) (tally 2 0 true) ≡ tally 2 0 false
+
 -- ---- cases
 
 -- the runs that are marked, each with its outcome beside it (`Marked`)
@@ -316,6 +358,9 @@ pub record Demands : Type 0 where
   pub covering : Covering
   pub resolving : Resolving
   pub never-covered : NeverCovered
+  pub by-tally : ByTally
+  pub tallying : Tallying
+  pub tallies-left : TalliesLeft
   pub marked-cases : MarkedCases
   pub further-cases : FurtherCases
   pub covered-cases : CoveredCases

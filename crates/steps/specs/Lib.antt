@@ -4,6 +4,7 @@ pub mod Clause
 pub mod State
 pub mod Sweep
 pub mod Notes
+pub mod Tally
 pub mod Enter
 pub mod Merge
 pub mod Search

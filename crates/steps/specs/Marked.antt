@@ -1,10 +1,12 @@
 -- The marked cases, the program's example among them, and further cases: contradictions, repeated rules, no options, and allowances too small. A case is
 -- a run and, beside it, its outcome.
 use mathlib.Core.Path.{_≡_}
+use mathlib.Core.Bool.{Bool}
 use mathlib.Core.List.{List, [], _∷_, map}
 use Prim.Native.Nat.{ℕ}
 use Rattle.steps.specs.Clause.{Clause, DSequent}
 use Rattle.steps.specs.State.{State, Ending, Ending.can, Ending.cannot, Ending.outOfBranchings, Ending.outOfClauses}
+use Rattle.steps.specs.Tally.{Tally}
 use Rattle.steps.specs.Run.{Assumptions, Outcome, run}
 
 -- the options that keep the rule when fitted, and those that keep it when left out
@@ -18,6 +20,10 @@ sequent r t k = record { decisions = record { decided = r; trues = t }; redundan
 -- the wanted options and the unwanted ones
 abbrev pub order : ℕ → ℕ → Assumptions
 order p q = record { pos = p; neg = q }
+
+-- the undecided entries, the decisions that keep it, and whether it names a struck option
+abbrev pub tally : ℕ → ℕ → Bool → Tally
+tally u k s = record { undecided = u; keepers = k; struck = s }
 
 -- the ending, the branchings, the derived rules and the records
 abbrev out : Ending → ℕ → List Clause → List DSequent → Outcome
@@ -52,7 +58,7 @@ abbrev pub Q : List Clause
 Q = clause 3 0 ∷ clause 4 1 ∷ clause 0 6 ∷ []
 
 -- rules 1 or 2; 2 or not 1; 1 or not 2; not 1 or not 2: the program's example (docs/FORMAT.md), and the run by hand in docs/STEPS.md
-abbrev W : List Clause
+abbrev pub W : List Clause
 W = clause 3 0 ∷ clause 2 1 ∷ clause 1 2 ∷ clause 0 3 ∷ []
 
 -- no options, one option, the joint set, Q with three orders, and W with enough of both allowances and with too few

@@ -48,6 +48,10 @@ choice (w ∷ ws) x =
       | true ↦ elim (meets (x .pos) w) [ false ↦ some (record { var = w; sign = true }) | true ↦ choice ws x ]
     ]
 
+-- a clause is in play with the literal l: it has it, and is not inactive
+abbrev pub inPlay : Literal → Assignment → ℕ → Clause → Bool
+inPlay l a k c = not (inactive a k c) && meets (literals (l .sign) c) (l .var)
+
 -- the decision that a clause adds for the literal l: where it has l and names nothing of k, the lowest that satisfies it
 unfoldable pub keeper : Literal → Assignment → ℕ → Clause → ℕ
 keeper l a k c = elim (meets (literals (l .sign) c) (l .var) && not (names k c)) [ false ↦ 0 | true ↦ lowest (keepers a c) ]

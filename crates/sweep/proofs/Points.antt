@@ -1,21 +1,25 @@
 -- What a point that is ready gives: its list fits the work table, with one D-sequent more where a variable is live, it is ready still after a change of its
 -- list, and the live variables are as the code computes them. For each D-sequent strikes one variable more.
-use mathlib.Core.Path.{_≡_, ap, ap₂, _∙_, subst⁻¹}
-use mathlib.Core.Bool.{false}
+use mathlib.Core.Path.{_≡_, refl, sym, ap, ap₂, _∙_, subst⁻¹}
+use mathlib.Core.Bool.{Bool, true, false}
 use mathlib.Core.List.{List}
 use Prim.Native.Nat.{ℕ, _+_, _≤_, _<_}
 use native.Mathlib.Omega.{arith}
+use borrow.Author.Tests.{ltb-true}
+use lib.Bits.{bitOr}
 use lib.ListN.{length}
-use Rattle.words.specs.Words.{isZero, minus}
-use Rattle.words.proofs.Sets.{some-member}
+use Rattle.words.specs.Words.{isZero, has, minus, Within}
+use Rattle.words.proofs.Membership.{has-firstOf}
+use Rattle.words.proofs.Sets.{some-member, within-antisym, or-within, or-within-l, or-within-r, minus-within, in-minus}
 use Rattle.steps.specs.Clause as clause
 use Rattle.steps.specs.Clause.{DSequent, last}
 use Rattle.steps.specs.State as state
 use Rattle.steps.specs.State.{State, undecided, redundant, live}
-use Rattle.steps.specs.Shape.{Shape}
-use Rattle.steps.proofs.ShapeKeep.{records-at-most-n, records-below-n, live-undecided, live-not-redundant, another, last-recorded}
+use Rattle.steps.specs.Shape.{Shape, OneOf}
+use Rattle.steps.proofs.ShapeKeep.{records-at-most-n, records-below-n, undecided-within, live-undecided, live-not-redundant, another, last-recorded}
 use Rattle.rows.specs.Values.{assignmentOf, envOf}
 use Rattle.rows.specs.Rows.{clauses, sequentWords, sequents, stateOf}
+use Rattle.rows.specs.Tally.{Tallied, TalliedAt, Variable}
 use Rattle.rows.specs.declared.clause.Assignment.{Assignment}
 use Rattle.rows.specs.declared.state.Counts.{Counts}
 use Rattle.rows.specs.declared.state.Env.{Env}
@@ -72,3 +76,38 @@ pub live-is : (e : state.Env) (a : clause.Assignment) (s : State) (x u : ℕ) (d
     → x ≡ live e a s
 unfolding live
 live-is e a s x u d is p q = is ∙ ap₂ (λ (y : ℕ) (z : DSequent). minus y (z .redundant)) p q
+
+-- where w is all that is live, it and the struck ones are all that is undecided
+pub last-live : {t rs : List ℕ} {e : Env} {a : Assignment} {s : Counts} {w : ℕ}
+    → Ready t rs e a s
+    → live (envOf e) (assignmentOf a) (stateOf t rs s) ≡ w
+    → bitOr (redundant (stateOf t rs s)) w ≡ undecided (envOf e) (assignmentOf a)
+unfolding live
+last-live {t} {rs} {e} {a} {s} {w} p is = ap (bitOr k) (sym is) ∙ within-antisym (bitOr k (minus u k)) u (or-within k (minus u k) u off (minus-within u k)) (λ j h. go j h (has k j) refl)
+  where
+    u : ℕ
+    u = undecided (envOf e) (assignmentOf a)
+
+    k : ℕ
+    k = redundant (stateOf t rs s)
+
+    off : Within k u
+    off = last-recorded (envOf e) (assignmentOf a) (stateOf t rs s) (p .shape) .off
+
+    go : (j : ℕ) → has u j ≡ true → (b : Bool) → has k j ≡ b → has (bitOr k (minus u k)) j ≡ true
+    go j h true m = or-within-l k (minus u k) j m
+    go j h false m = or-within-r k (minus u k) j (in-minus u k j h m)
+
+-- a live variable is one of the 64
+pub live-variable : {t rs : List ℕ} {e : Env} {a : Assignment} {s : Counts} {w : ℕ} → Ready t rs e a s → OneOf w (live (envOf e) (assignmentOf a) (stateOf t rs s)) → Variable w
+live-variable {t} {rs} {e} {a} {s} {w} p one =
+    let named = undecided-within (envOf e) (assignmentOf a) (one .var) (live-undecided (envOf e) (assignmentOf a) (stateOf t rs s) (one .var) (one .member)) in
+    let below = ltb-true (one .var) (e .vars) (sym (has-firstOf (e .vars) (one .var)) ∙ named) in
+    record { var = one .var; word = one .word; below = omega (arith, below, p .vars) }
+
+-- the tallies are those of the last D-sequent's set
+pub tallied-last : {t q : List ℕ} (rs : List ℕ) (s : Counts) (a : clause.Assignment) (d : DSequent)
+    → d ≡ last (sequents rs (s .records))
+    → TalliedAt t q rs a s
+    → Tallied t q (s .clauses) a (d .redundant)
+tallied-last {t} {q} rs s a d is = subst⁻¹ (λ (x : DSequent). Tallied t q (s .clauses) a (x .redundant)) is

@@ -24,7 +24,7 @@ abbrev pub found : Env → Assignment → State → Found
 found e a s = firstMonotone a s (members (live e a s))
 
 -- a variable that is found is live
-found-live : (e : Env) (a : Assignment) (s : State) (w r : ℕ) → found e a s ≡ variable w r → OneOf w (live e a s)
+pub found-live : (e : Env) (a : Assignment) (s : State) (w r : ℕ) → found e a s ≡ variable w r → OneOf w (live e a s)
 found-live e a s w r h =
     let one = members-are (live e a s) w (firstMonotone-is a s (members (live e a s)) w r h .0) in
     record { var = one .0; word = one .1; member = one .2 }

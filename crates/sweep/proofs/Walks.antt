@@ -5,10 +5,16 @@ use mathlib.Core.List.{List}
 use Prim.Native.Nat.{ℕ, _+_, _-_, _≤_, _<_}
 use native.Mathlib.Nat.{sub-zero}
 use lib.Bits.{bitOr}
+use lib.ListN.{getD}
 use Rattle.steps.specs.Clause.{Clause, Assignment}
 use Rattle.steps.specs.Notes.{Notes, note, walk, notes, Literal, keeper, gather}
 use Rattle.rows.specs.Rows.{from, clauseAt, clauses}
+use Rattle.rows.specs.Tally.{Holds, Tallied}
 use Rattle.rows.proofs.Lists.{from-step, from-end}
+
+-- the word of the clause c, which is at i, is that of its tallies
+pub held-at : {t q : List ℕ} {m i : ℕ} {a : Assignment} {k : ℕ} {c : Clause} → Tallied t q m a k → i < m → c ≡ clauseAt t i → Holds a k c (getD q i 0)
+held-at {a = a} {k} h below is = rw is (h .held _ below)
 
 module _ (t : List ℕ) (m : ℕ) (a : Assignment) (k : ℕ) where
   -- the clauses from i on

@@ -1,14 +1,17 @@
-// Step 3: the sweep, which strikes variables that no longer matter. It goes by rule, with one walk over the table a round.
+// Step 3: the sweep, which strikes variables that no longer matter. It goes by rule. Which clauses are inactive, and which name a redundant variable, their tallies say.
 ghost use mathlib.Core.Path.{_≡_};
-ghost use Prim.Native.Nat.{_≤_};
+ghost use Prim.Native.Nat.{ℕ, _≤_, _<_};
 ghost use lib.Bits.{bitOr};
+ghost use lib.Count.{ones};
 ghost use lib.ListN.{length};
 ghost use Rattle.words.specs.Words.{members};
 ghost use Rattle.steps.specs.Notes.{note as Note, notes as Notes, choice as Choice, keeper as Keeper, gather as Gather};
-ghost use Rattle.steps.specs.Sweep.{sweep as Sweep};
-ghost use Rattle.rows.specs.Values.{clauseOf, assignmentOf, sequentOf, envOf};
+ghost use Rattle.steps.specs.Clause.{Assignment as Decisions, keepers};
+ghost use Rattle.steps.specs.Sweep.{strike as Strike, sweep as Sweep};
+ghost use Rattle.rows.specs.Values.{clauseOf, assignmentOf, envOf};
 ghost use Rattle.rows.specs.Rows.{clauseWords, clauses, stateOf};
-ghost use Rattle.sweep.specs.Sweep.{reasonOf, notesOf, literalOf, choiceOf, monotoneBy, Ready};
+ghost use Rattle.rows.specs.Tally.{Holds, Tallied, TalliedAt, Variable};
+ghost use Rattle.sweep.specs.Sweep.{notesOf, literalOf, choiceOf, Ready, Striking};
 use rows::clause;
 use rows::clause::Assignment;
 use rows::clause::Clause;
@@ -18,12 +21,8 @@ use rows::state;
 use rows::state::Counts;
 use rows::state::Env;
 use rows::table;
-
-// The decisions by which clauses are inactive, if they are.
-pub enum Reason {
-    By(u64),
-    Nothing,
-}
+use rows::tallies;
+use rows::tally;
 
 // The literals noted, positive and negative.
 struct Noted {
@@ -32,7 +31,7 @@ struct Noted {
 }
 
 // The literal of a variable, given as a word, and a sign.
-struct Literal {
+pub struct Literal {
     pub var: u64,
     pub sign: bool,
 }
@@ -43,81 +42,73 @@ enum Chosen {
     Nothing,
 }
 
-// What a walk that strikes a variable leaves: the notes from then on, and the decisions gathered for the strike.
-struct Struck {
-    pub seen: Noted,
-    pub on: u64,
-}
-
-// A clause's turn in the notes: one that has a true literal, or one of a variable of k, adds nothing.
-fn note(c: Clause, a: Assignment, k: u64, seen: Noted) -> Noted
-    ensures { λ r. ⌜ notesOf r ≡ Note (assignmentOf a) k (clauseOf c) (notesOf seen) ⌝ }
+// A clause's turn in the notes, with its tallies x: an inactive one adds nothing.
+fn note(c: Clause, x: u64, seen: Noted) -> Noted
+    ensures { λ r. ⌜ ((a : Decisions) (k : ℕ) → ones (keepers a (clauseOf c)) < 128 → Holds a k (clauseOf c) x → notesOf r ≡ Note a k (clauseOf c) (notesOf seen)) ⌝ }
 {
-    let falses = words::minus(a.decided, a.trues);
-    if ((c.pos & (a.trues | k)) | (c.neg & (falses | k))) != 0 {
-        return seen;
+    if tally::is_active(x) {
+        return Noted {
+            pos: seen.pos | c.pos,
+            neg: seen.neg | c.neg,
+        };
     }
-    Noted {
-        pos: seen.pos | c.pos,
-        neg: seen.neg | c.neg,
-    }
+    seen
 }
 
-// The decision that a clause adds for the literal l, and 0 where it adds none.
-fn keeper(c: Clause, l: Literal, a: Assignment, k: u64) -> u64
-    ensures { λ r. ⌜ r ≡ Keeper (literalOf l) (assignmentOf a) k (clauseOf c) ⌝ }
+// The decision that a clause with the tallies x adds for the literal l, and 0 where it adds none.
+fn keeper(c: Clause, x: u64, l: Literal, a: Assignment) -> u64
+    ensures { λ r. ⌜ ((k : ℕ) → Holds (assignmentOf a) k (clauseOf c) x → r ≡ Keeper (literalOf l) (assignmentOf a) k (clauseOf c)) ⌝ }
 {
     if !words::meets(clause::literals(l.sign, c), l.var) {
         return 0;
     }
-    if clause::names(k, c) {
+    if tally::is_struck(x) {
         return 0;
     }
     words::lowest_of(clause::keepers(a, c))
 }
 
 // The first round's walk: notes the literals of the clauses that are not inactive.
-fn notes(t: &[u64], m: usize, a: Assignment, k: u64) -> Noted
-    requires { ⌜ clauseWords m ≤ length (now t) ⌝ }
-    ensures { λ r. ⌜ notesOf r ≡ Notes (assignmentOf a) k (clauses (now (t .entry)) m) ⌝ }
+fn notes(t: &[u64], q: &[u64], m: usize) -> Noted
+    requires { ⌜ (clauseWords m ≤ length (now t)) × (m ≤ length (now q)) ⌝ }
+    ensures { λ r. ⌜ ((a : Decisions) (k : ℕ) → Tallied (now (t .entry)) (now (q .entry)) m a k → notesOf r ≡ Notes a k (clauses (now (t .entry)) m)) ⌝ }
 {
     let mut seen = Noted { pos: 0, neg: 0 };
     let mut i = 0;
     while i < m {
-        seen = note(table::clause_at(t, i), a, k, seen);
+        seen = note(table::clause_at(t, i), q[i], seen);
         i += 1;
     }
     seen
 }
 
-// A later round's walk, with the variable of l redundant too: gathers the decisions by which the clauses with l are inactive, those of the last D-sequent d among
-// them, and notes the literals of the clauses that are not inactive from then on.
-fn strike(t: &[u64], m: usize, l: Literal, a: Assignment, d: DSequent) -> Struck
-    requires { ⌜ clauseWords m ≤ length (now t) ⌝ }
-    ensures { λ r. ⌜ (notesOf (r .seen) ≡ Notes (assignmentOf a) (bitOr (d .redundant) (l .var)) (clauses (now (t .entry)) m)) × (r .on ≡ Gather (literalOf l) (assignmentOf a) (d .redundant) (d .decided) (clauses (now (t .entry)) m)) ⌝ }
+// A later round's walk: strikes the variable w, and notes the literals of the clauses that are not inactive from then on.
+fn strike(t: &[u64], q: &mut [u64], m: usize, w: u64) -> Noted
+    requires { ⌜ (clauseWords m ≤ length (now t)) × (m ≤ length (now q)) × Variable w ⌝ }
+    ensures { λ r. ⌜ ((a : Decisions) (k : ℕ) → Tallied (now (t .entry)) (now (q .entry)) m a k → Tallied (now (t .entry)) (now (q .exit)) m a (bitOr k w) × (notesOf r ≡ Notes a (bitOr k w) (clauses (now (t .entry)) m))) ⌝ }
 {
-    let k = d.redundant | l.var;
+    let v = words::lowest_var(w);
     let mut seen = Noted { pos: 0, neg: 0 };
-    let mut on = d.decided;
     let mut i = 0;
     while i < m {
         let c = table::clause_at(t, i);
-        seen = note(c, a, k, seen);
-        on = on | keeper(c, l, a, d.redundant);
+        let x = tally::strike(q[i], c, v);
+        q[i] = x;
+        seen = note(c, x, seen);
         i += 1;
     }
-    Struck { seen: seen, on: on }
+    seen
 }
 
-// The decisions by which the clauses with l are inactive, those of the last D-sequent d among them: what `strike` gathers, without notes.
-fn gather(t: &[u64], m: usize, l: Literal, a: Assignment, d: DSequent) -> u64
-    requires { ⌜ clauseWords m ≤ length (now t) ⌝ }
-    ensures { λ r. ⌜ r ≡ Gather (literalOf l) (assignmentOf a) (d .redundant) (d .decided) (clauses (now (t .entry)) m) ⌝ }
+// The decisions by which the clauses with l are inactive, and those of r.
+fn gather(t: &[u64], q: &[u64], m: usize, l: Literal, a: Assignment, r: u64) -> u64
+    requires { ⌜ (clauseWords m ≤ length (now t)) × (m ≤ length (now q)) ⌝ }
+    ensures { λ x. ⌜ ((k : ℕ) → Tallied (now (t .entry)) (now (q .entry)) m (assignmentOf a) k → x ≡ Gather (literalOf l) (assignmentOf a) k r (clauses (now (t .entry)) m)) ⌝ }
 {
-    let mut reasons = d.decided;
+    let mut reasons = r;
     let mut i = 0;
     while i < m {
-        reasons = reasons | keeper(table::clause_at(t, i), l, a, d.redundant);
+        reasons = reasons | keeper(table::clause_at(t, i), q[i], l, a);
         i += 1;
     }
     reasons
@@ -138,32 +129,36 @@ fn choice(live: u64, seen: Noted) -> Chosen
     })
 }
 
-// The test for w alone: its negative literal, or else its positive one, whichever is not noted. d is the last D-sequent.
-pub fn monotone(t: &[u64], m: usize, w: u64, a: Assignment, d: DSequent) -> Reason
-    requires { ⌜ clauseWords m ≤ length (now t) ⌝ }
-    ensures { λ r. ⌜ reasonOf r ≡ monotoneBy (clauses (now (t .entry)) m) w (assignmentOf a) (sequentOf d) ⌝ }
+// Strikes the variable of l, the last that is not struck, which passes the test by this literal. d is the last D-sequent.
+pub fn strike_by(
+    t: &[u64],
+    q: &mut [u64],
+    rs: &mut [u64],
+    e: Env,
+    l: Literal,
+    a: Assignment,
+    d: DSequent,
+    s: Counts,
+) -> Counts
+    requires { ⌜ Striking (now t) (now q) (now rs) e l (assignmentOf a) d s ⌝ }
+    ensures { λ r. ⌜ (stateOf (now (t .entry)) (now (rs .exit)) r ≡ Strike (assignmentOf a) (l .var) (Gather (literalOf l) (assignmentOf a) (d .redundant) (d .decided) (clauses (now (t .entry)) (s .clauses))) (stateOf (now (t .entry)) (now (rs .entry)) s)) × TalliedAt (now (t .entry)) (now (q .exit)) (now (rs .exit)) (assignmentOf a) r ⌝ }
 {
-    let seen = notes(t, m, a, d.redundant);
-    let sign = words::meets(seen.neg, w);
-    if sign {
-        if words::meets(seen.pos, w) {
-            return Reason::Nothing;
-        }
-    }
-    Reason::By(gather(t, m, Literal { var: w, sign: sign }, a, d))
+    let on = gather(t, q, s.clauses, l, a, d.decided);
+    tallies::strike_all(q, s.clauses);
+    state::append(rs, a, on, d.redundant | l.var, s)
 }
 
-// Strikes variables until none passes the test, and answers the counts as they are then. A round is one walk; where nothing is live there is none to make, and where
-// the last live variable is struck nothing is left to note.
-pub fn sweep(t: &[u64], rs: &mut [u64], e: Env, a: Assignment, s: Counts) -> Counts
-    requires { ⌜ Ready (now t) (now rs) e a s ⌝ }
-    ensures { λ r. ⌜ stateOf (now (t .entry)) (now (rs .exit)) r ≡ Sweep (envOf e) (assignmentOf a) (e .vars) (stateOf (now (t .entry)) (now (rs .entry)) s) ⌝ }
+// Strikes variables until none passes the test, and answers the counts as they are then. Where nothing is live there is no walk to make, and where the last live
+// variable is struck nothing is left to note.
+pub fn sweep(t: &[u64], q: &mut [u64], rs: &mut [u64], e: Env, a: Assignment, s: Counts) -> Counts
+    requires { ⌜ Ready (now t) (now rs) e a s × TalliedAt (now t) (now q) (now rs) (assignmentOf a) s ⌝ }
+    ensures { λ r. ⌜ (stateOf (now (t .entry)) (now (rs .exit)) r ≡ Sweep (envOf e) (assignmentOf a) (e .vars) (stateOf (now (t .entry)) (now (rs .entry)) s)) × TalliedAt (now (t .entry)) (now (q .exit)) (now (rs .exit)) (assignmentOf a) r ⌝ }
 {
     let first = records::last(rs, s.records);
     if words::minus(state::undecided(e, a), first.redundant) == 0 {
         return s;
     }
-    let mut seen = notes(t, s.clauses, a, first.redundant);
+    let mut seen = notes(t, q, s.clauses);
     let mut now = s;
     loop {
         let d = records::last(rs, now.records);
@@ -173,11 +168,10 @@ pub fn sweep(t: &[u64], rs: &mut [u64], e: Env, a: Assignment, s: Counts) -> Cou
             return now;
         };
         if live == l.var {
-            let on = gather(t, now.clauses, l, a, d);
-            return state::append(rs, a, on, d.redundant | l.var, now);
+            return strike_by(t, q, rs, e, l, a, d, now);
         }
-        let struck = strike(t, now.clauses, l, a, d);
-        seen = struck.seen;
-        now = state::append(rs, a, struck.on, d.redundant | l.var, now);
+        let on = gather(t, q, now.clauses, l, a, d.decided);
+        seen = strike(t, q, now.clauses, l.var);
+        now = state::append(rs, a, on, d.redundant | l.var, now);
     }
 }

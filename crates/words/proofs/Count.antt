@@ -12,10 +12,11 @@ use borrow.Author.Tests.{ltb-true, not-false}
 use lib.Arith.{bin-ind, lt-one}
 use lib.Bits.{bitAnd, bitOr, and-comm}
 use lib.Count.{ones, onesIn, ones-step, ones-ones, trailingZeros, under}
-use lib.Pow.{shr-lt}
-use Rattle.words.specs.Words.{isZero, odd, has, minus, meets, firstOf, lowest, Within}
-use Rattle.words.proofs.Membership.{digit, lowest-digit, halves, halves-at, odd-of, half-of, has-bit, has-bit-eq, has-firstOf, bit-halves, digit-minus, and-halves, or-halves, minus-halves}
-use Rattle.words.proofs.Sets.{is-zero, nonzero, half-nonzero, some-member, within-antisym, and-whole, bit-within, minus-empty, lt-within}
+use lib.Pow.{pow-lt, shr-lt}
+use Rattle.words.specs.Words.{isZero, odd, digit, has, minus, meets, firstOf, lowest, Within}
+use Rattle.words.proofs.Membership.{lowest-digit, halves, halves-at, odd-of, half-of, has-bit, has-bit-eq, has-firstOf, bit-halves, digit-minus, and-halves, or-halves, minus-halves}
+use Rattle.words.proofs.Sets.{is-zero, nonzero, member-nonzero, half-nonzero, some-member, within-antisym, and-whole, bit-within, minus-empty, lt-within}
+use Rattle.words.proofs.Unions.{meets-bit}
 use Rattle.words.proofs.Lowest.{lowest-odd, lowest-even, lowest-is}
 
 -- the empty word has none
@@ -162,3 +163,19 @@ trailing-member w x n h =
 pub trailing-lt : (w x : ℕ) → isZero x ≡ false → x < 2 ^ w → trailingZeros w x < w
 trailing-lt w x n h =
     let t = trailingZeros w x in ltb-true t w (sym (has-firstOf w t) ∙ lt-within w x h t (trailing-member w x n h .0))
+
+-- of a word of one variable it is the variable's number
+pub trailing-bit : (w k : ℕ) → k < w → trailingZeros w (2 ^ k) ≡ k
+trailing-bit w k h =
+    let n = member-nonzero (2 ^ k) k (has-bit k) in
+    let t = trailingZeros w (2 ^ k) in
+    sym (has-bit-eq k t (trailing-member w (2 ^ k) n (pow-lt h) .0))
+
+-- of one variable a word has one member or none
+pub ones-bit-and : (x k : ℕ) → ones (bitAnd x (2 ^ k)) ≡ digit (has x k)
+unfolding meets
+ones-bit-and x k = go (has x k) refl
+  where
+    go : (p : Bool) → has x k ≡ p → ones (bitAnd x (2 ^ k)) ≡ digit p
+    go true h = ap ones (and-comm x (2 ^ k) ∙ and-whole (2 ^ k) x (bit-within x k h)) ∙ ones-bit k
+    go false h = ap ones (is-zero (bitAnd x (2 ^ k)) (not-false _ (meets-bit x k ∙ h))) ∙ ones-zero

@@ -13,9 +13,9 @@ use borrow.Author.Tests.{eqb-true, eqb-false}
 use lib.Arith.{bin-ind}
 use lib.Bits.{bitAnd, and-self, and-le-l}
 use lib.Dec.{eqb}
-use Rattle.words.specs.Words.{isZero, odd, has, minus, meets, lowest, members, membersUpTo, Within}
-use Rattle.words.proofs.Membership.{digit, halves-at, odd-of, half-of, has-first, has-next, has-zero, has-bit, has-bit-other, has-minus, minus-halves}
-use Rattle.words.proofs.Sets.{half-nonzero, minus-within, meets-intro}
+use Rattle.words.specs.Words.{isZero, odd, digit, has, minus, meets, lowest, members, membersUpTo, Within}
+use Rattle.words.proofs.Membership.{halves-at, odd-of, half-of, has-first, has-next, has-zero, has-bit, has-bit-other, has-bit-eq, has-minus, minus-halves}
+use Rattle.words.proofs.Sets.{member-nonzero, half-nonzero, minus-within, meets-intro}
 
 -- ---- the lowest member, by halves
 
@@ -71,7 +71,13 @@ lowest-is =
         below x k o f zero l = has-first x ∙ o
         below x k o f (suc j) l = has-next x j ∙ f j (le-of-suc-le-suc l)
 
--- the lowest member is within the word
+-- of a word of one variable it is that word
+pub lowest-bit : (k : ℕ) → lowest (2 ^ k) ≡ 2 ^ k
+lowest-bit k =
+    let low = lowest-is (2 ^ k) (member-nonzero (2 ^ k) k (has-bit k)) in
+    low .1 ∙ ap (λ (j : ℕ). 2 ^ j) (sym (has-bit-eq k (low .0) (low .2)))
+
+-- the lowest member is a member
 pub lowest-within : (x : ℕ) → Within (lowest x) x
 unfolding lowest
 lowest-within x = minus-within x (x - 1)

@@ -12,14 +12,9 @@ use lib.Bits.{bitAnd, bitOr, and-step, or-step, and-le-l}
 use borrow.Author.Tests.{eqb-true, eqb-false}
 use lib.Dec.{ltb, eqb, leb·zero, leb·suc-zero, leb·suc-suc}
 use lib.Pow.{pow-pos, shr-shr}
-use Rattle.words.specs.Words.{isZero, odd, has, minus, firstOf}
+use Rattle.words.specs.Words.{isZero, odd, digit, has, minus, firstOf}
 
 -- ---- a word as its half and its lowest digit
-
--- the digit that says whether p holds
-abbrev pub digit : Bool → ℕ
-digit true = 1
-digit false = 0
 
 -- a digit is 0 or 1
 digit-small : (p : Bool) → digit p < 2

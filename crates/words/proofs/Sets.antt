@@ -9,9 +9,9 @@ use borrow.Author.Tests.{not-true}
 use lib.Arith.{bin-ind}
 use lib.Dec.{eqb, eqb·suc-zero}
 use lib.Bits.{bitAnd, bitOr, and-mask, mask-lt, and-zero-r}
-use Rattle.words.specs.Words.{isZero, odd, has, minus, meets, firstOf, Within}
+use Rattle.words.specs.Words.{isZero, odd, digit, has, minus, meets, firstOf, Within}
 use Rattle.words.proofs.Truth.{both-ways, refuted, confirmed, and-left, and-right, and-both, or-either, iff}
-use Rattle.words.proofs.Membership.{digit, halves-at, has-first, has-next, has-and, has-or, has-minus, has-zero, has-bit-eq, ext}
+use Rattle.words.proofs.Membership.{halves-at, has-first, has-next, has-and, has-or, has-minus, has-zero, has-bit-eq, ext}
 
 -- ---- the empty word
 

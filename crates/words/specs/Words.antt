@@ -13,6 +13,11 @@ isZero (suc k) = false
 abbrev pub odd : ℕ → Bool
 odd x = not (isZero (x % 2))
 
+-- the digit that says whether p holds
+abbrev pub digit : Bool → ℕ
+digit true = 1
+digit false = 0
+
 -- variable k is a member of x
 unfoldable pub has : ℕ → ℕ → Bool
 has x k = odd (x / 2 ^ k)

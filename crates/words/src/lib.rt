@@ -3,7 +3,7 @@
 ghost use mathlib.Core.Path.{_≡_};
 ghost use Prim.Native.Nat.{min, _^_, _<_};
 ghost use lib.Count.{ones, trailingZeros};
-ghost use Rattle.words.specs.Words.{lowest, minus, meets, firstOf};
+ghost use Rattle.words.specs.Words.{digit, has, lowest, minus, meets, firstOf};
 
 // The number of the lowest member of x, and 64 where x is empty.
 pub fn lowest_var(x: u64) -> u32
@@ -18,6 +18,14 @@ pub fn word_of(k: u32) -> u64
     ensures { λ r. ⌜ r ≡ 2 ^ k ⌝ }
 {
     1 << k
+}
+
+// 1 where the variable of number k is a member of x, and else 0.
+pub fn bit_of(x: u64, k: u32) -> u64
+    requires { ⌜ k < 64 ⌝ }
+    ensures { λ r. ⌜ r ≡ digit (has x k) ⌝ }
+{
+    (x >> k) % 2
 }
 
 // The lowest member of x, as a word of one variable, and 0 where x is empty.

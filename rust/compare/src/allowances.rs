@@ -83,7 +83,7 @@ fn try_book(make: Make, small: &Small, tried: &mut Tried) -> Result<(), String> 
 }
 
 /// The check of a small book with ample allowances.
-fn check(small: &Small) -> Check {
+pub fn check(small: &Small) -> Check {
     let rules = small.rules.iter().map(|&(fitted, left_out)| Rule { fitted, left_out }).collect();
     let book = Book { options: small.options, rules };
     let (wanted, unwanted) = small.order;

@@ -3,7 +3,6 @@
 //! No derived rule may be covered by an earlier one.
 
 use crate::choices;
-use crate::hex::hex;
 use crate::kinds::{self, Case, Kind, KINDS};
 use crate::question::{first_difference, Check};
 use crate::under_test::UnderTest;
@@ -154,15 +153,9 @@ fn tight_checks(check: &Check) -> Vec<Check> {
     checks
 }
 
-/// The case in words, its bytes in hexadecimal.
+/// The case in words.
 fn told(case: &Case) -> String {
-    let Check { input, places: Places { derived, records }, allowance } = &case.check;
-    format!(
-        "kind: {}\nallowance {allowance}, derived tables {derived:?}, record tables {records:?}\n\
-         standard input in hexadecimal:\n{}",
-        case.kind.name(),
-        hex(input)
-    )
+    format!("kind: {}\n{}", case.kind.name(), case.check.told())
 }
 
 impl Tally {

@@ -18,6 +18,7 @@ mod question;
 mod random;
 mod shapes;
 mod small;
+mod tallies;
 mod under_test;
 mod vectors;
 
@@ -33,6 +34,8 @@ compare vectors FILE... [--program PATH]
     the cases of these files through the checker and the port
 compare allowances
     small books with every allowance and number of places through the checker and the port
+compare tallies [--seed S] [--books N]
+    generated books through the engine's own source, every tally counted anew after each change
 compare framed FILE FOLDER
     the program's cases of a file as the test program `vectors` reads and writes them, in FOLDER
 compare bench [--seed S] [--solver NAME]
@@ -71,6 +74,7 @@ fn main() {
         "framed" => framed(&words),
         "allowances" => allowances(),
         "bench" => bench(&words),
+        "tallies" => tallies(&words),
         _ => usage(),
     };
     if let Err(what) = done {
@@ -158,6 +162,16 @@ fn allowances() -> Result<(), String> {
          rubbish: no difference",
         tried.books, tried.pairs, tried.lengths
     );
+    Ok(())
+}
+
+fn tallies(words: &Words) -> Result<(), String> {
+    let (seed, books) = (words.seed.unwrap_or(SEED), words.books.unwrap_or(BOOKS));
+    tallies::tell_the_book_at_a_panic();
+    let start = Instant::now();
+    let tally = tallies::run(seed, books)?;
+    print!("{}", tally.told());
+    println!("{}, in {:.1} s", tally.summary(seed), start.elapsed().as_secs_f64());
     Ok(())
 }
 

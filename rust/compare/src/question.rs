@@ -1,5 +1,6 @@
 //! A check as it is asked of a checker, and what the port answers.
 
+use crate::hex::hex;
 use port::{Outcome, Places, Request, PROGRAM_ALLOWANCE, PROGRAM_PLACES, PROGRAM_RECORD_PLACES};
 
 /// The bytes of an order on standard input.
@@ -37,6 +38,16 @@ impl Check {
         let (order, book) = self.input.split_at_checked(ORDER)?;
         let (wanted, unwanted) = order.split_at(ORDER / 2);
         Some((word(wanted), word(unwanted), book))
+    }
+
+    /// The check in words, its bytes in hexadecimal.
+    pub fn told(&self) -> String {
+        let Check { input, places: Places { derived, records }, allowance } = self;
+        format!(
+            "allowance {allowance}, derived tables {derived:?}, record tables {records:?}\n\
+             standard input in hexadecimal:\n{}",
+            hex(input)
+        )
     }
 
     /// The outcome of the port.

@@ -51,9 +51,25 @@ fn a_missing_file_of_vectors_fails_and_is_named() {
 }
 
 #[test]
+fn the_last_line_on_tallies_has_the_counts() {
+    let output = compare(&["tallies", "--seed", "3", "--books", "20"]);
+    assert_eq!(output.status.code(), Some(0), "{}", said(&output));
+    let told = String::from_utf8_lossy(&output.stdout);
+    let last = told.lines().last().unwrap_or_default();
+    assert!(last.starts_with("20 books of seed 3 and 22 small books, "), "{told}");
+    assert!(last.contains(" words of tallies compared, no difference, in "), "{told}");
+}
+
+#[test]
 fn a_bad_command_line_ends_with_2() {
-    let bad: [&[&str]; 5] =
-        [&[], &["check"], &["vectors"], &["differential", "--seed", "x"], &["bench", "a"]];
+    let bad: [&[&str]; 6] = [
+        &[],
+        &["check"],
+        &["vectors"],
+        &["differential", "--seed", "x"],
+        &["bench", "a"],
+        &["tallies", "a"],
+    ];
     for words in bad {
         assert_eq!(compare(words).status.code(), Some(2), "{words:?}");
     }

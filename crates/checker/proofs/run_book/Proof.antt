@@ -32,10 +32,18 @@ pass c = sym (c .before .fault .ensures) ∙ c .if1 .left
 slice-aggregate-decide : tie.Need-slice-aggregate-decide
 slice-aggregate-decide c = search needs
 
+slice-aggregate-decide-2 : tie.Need-slice-aggregate-decide-2
+slice-aggregate-decide-2 c = search needs
+
 decide-requires : tie.Need-decide-requires
 decide-requires c κs =
-    let e = c .before .before in
-    record { workable = e .before .before .before .before .before .before .before .before .pre; places-few = passing _ (pass e) .few; list-room = search needs }
+    let e = c .before .before .before in
+    record {
+      workable = e .before .before .before .before .before .before .before .before .pre;
+      places-few = passing _ (pass e) .few;
+      tally-room = search needs;
+      list-room = search needs;
+    }
 
 tally-of-requires : tie.Need-tally-of-requires
 tally-of-requires c κs = search needs
@@ -45,9 +53,9 @@ slice-aggregate-hand-out c = search needs
 
 hand-out-requires : tie.Need-hand-out-requires
 hand-out-requires c κs =
-    let q = c .before .before .before .before .before .before .before .before .before .before .before .decide in
-    let e = c .before .before .before .before .before .before .before .before .before .before .before .before .before .before in
-    let start = c .before .before .before .before .before .before .before .before .before .before .before .before .before .before .before .before .before .before .before .before .before .before in
+    let q = c .before .before .before .before .before .before .before .before .before .before .before .before .decide in
+    let e = c .before .before .before .before .before .before .before .before .before .before .before .before .before .before .before .before in
+    let start = c .before .before .before .before .before .before .before .before .before .before .before .before .before .before .before .before .before .before .before .before .before .before .before .before in
     let x = start .args in
     fitting
     (x .b)
@@ -59,10 +67,10 @@ hand-out-requires c κs =
     (passing _ (pass e))
     (q .result)
     (q .last .1 .1 .1 .1 .0)
-    (q .last .1 .1 .1 .1 .1 .0)
+    (q .last .1 .1 .1 .1 .1 .1 .0)
     (q .ensures)
     (q .kept .1 .1 .1 .1 .0)
-    (omega (arith, q .kept .1 .1 .1 .1 .1 .0))
+    (omega (arith, q .kept .1 .1 .1 .1 .1 .1 .0))
     (c .before .before .before .before .before .before .before .tally-of .result)
     (c .before .before .before .before .before .before .before .tally-of .ensures)
 
@@ -86,9 +94,9 @@ same-length-6 c = search needs
 
 returns-2 : tie.Need-returns-2
 returns-2 c =
-    let q = c .before .before .before .before .before .before .before .before .before .before .before .before .before .before .before .before .before .before .before .before .before .before .decide in
-    let e = c .before .before .before .before .before .before .before .before .before .before .before .before .before .before .before .before .before .before .before .before .before .before .before .before .before in
-    let start = c .before .before .before .before .before .before .before .before .before .before .before .before .before .before .before .before .before .before .before .before .before .before .before .before .before .before .before .before .before .before .before .before .before in
+    let q = c .before .before .before .before .before .before .before .before .before .before .before .before .before .before .before .before .before .before .before .before .before .before .before .decide in
+    let e = c .before .before .before .before .before .before .before .before .before .before .before .before .before .before .before .before .before .before .before .before .before .before .before .before .before .before .before in
+    let start = c .before .before .before .before .before .before .before .before .before .before .before .before .before .before .before .before .before .before .before .before .before .before .before .before .before .before .before .before .before .before .before .before .before .before .before in
     let x = start .args in
     handed-out
     (x .b)
@@ -100,7 +108,7 @@ returns-2 c =
     (passing _ (pass e))
     (q .result)
     (q .last .1 .1 .1 .1 .0)
-    (q .last .1 .1 .1 .1 .1 .0)
+    (q .last .1 .1 .1 .1 .1 .1 .0)
     (q .ensures)
     (c .before .before .before .before .before .before .before .before .before .before .before .before .before .before .before .before .before .before .tally-of .result)
     (c .before .before .before .before .before .before .before .before .before .before .before .before .before .before .before .before .before .before .tally-of .ensures)
@@ -115,6 +123,7 @@ run-book-spec =
     fault-requires
     returns
     slice-aggregate-decide
+    slice-aggregate-decide-2
     decide-requires
     tally-of-requires
     slice-aggregate-hand-out

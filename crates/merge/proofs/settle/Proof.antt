@@ -1,12 +1,16 @@
--- `merge::settle` meets its contract: the test against 0 is the definition's, and the rest is `append_falsified`. Assumes nothing.
-use mathlib.Core.Path.{ap, sym, _∙_}
+-- `merge::settle` meets its contract: the test against 0 is the definition's, and the rest is `append_falsified`, whose set has all undecided variables, as the
+-- tallies say then. Assumes nothing.
+use mathlib.Core.Path.{refl, sym, ap, _∙_}
 use borrow.Author.Needs.{needs}
 use Rattle.words.specs.Words.{isZero}
 use Rattle.words.proofs.Sets.{nonzero}
-use Rattle.steps.specs.Clause.{vars}
-use Rattle.steps.specs.State.{Side.up}
-use Rattle.rows.specs.Values.{clauseOf}
 use Rattle.words.proofs.Truth.{when-true, when-false}
+use Rattle.steps.specs.Clause.{vars}
+use Rattle.steps.specs.State.{Side.up, undecided, redundant}
+use Rattle.steps.proofs.ShapeKeep.{append-redundant}
+use Rattle.rows.specs.Values.{clauseOf, assignmentOf}
+use Rattle.rows.specs.Rows.{stateOf}
+use Rattle.rows.proofs.Walks.{tallied-at}
 use Rattle.merge.proofs.settle.Statement.{statement}
 use Rattle.merge.proofs.settle.Tie as tie
 
@@ -14,7 +18,12 @@ vars-requires : tie.Need-vars-requires
 vars-requires c κs = search needs
 
 returns : tie.Need-returns
-returns c t = sym (when-true (isZero (vars (clauseOf (c .before .before .before .args .c)))) _ _ (ap isZero (sym (c .before .vars .ensures) ∙ c .if1 .taken)))
+returns c t =
+    let x = c .before .before .before .before .args in
+    (sym (when-true (isZero (vars (clauseOf (x .c)))) _ _ (ap isZero (sym (c .before .vars .ensures) ∙ c .if1 .taken))), λ proper tallied. tallied)
+
+strike-all-requires : tie.Need-strike-all-requires
+strike-all-requires c κs = search needs
 
 append-falsified-requires : tie.Need-append-falsified-requires
 append-falsified-requires c κs = search needs
@@ -22,17 +31,26 @@ append-falsified-requires c κs = search needs
 same-length : tie.Need-same-length
 same-length c = search needs
 
+same-length-2 : tie.Need-same-length-2
+same-length-2 c = search needs
+
 returns-2 : tie.Need-returns-2
+unfolding undecided
 returns-2 c t =
-    let v = c .before .before .before .before .before in
-    ap up (c .before .before .append-falsified .ensures t)
-    ∙
-    sym
-    (when-false
-    (isZero (vars (clauseOf (v .before .before .args .c))))
-    _
-    _
-    (ap isZero (sym (v .vars .ensures)) ∙ nonzero (v .vars .result) (c .before .before .before .before .if1 .left)))
+    let made = c .before .before .append-falsified in
+    let struck = c .before .before .before .before .before .before in
+    let test = struck .before .before in
+    let named = test .before .vars in
+    let start = test .before .before .before .before in
+    let x = start .args in
+    let s = stateOf t (x .rs .now) (x .s) in
+    let is = made .ensures t in (
+      ap up is
+          ∙ sym (when-false (isZero (vars (clauseOf (x .c)))) _ _ (ap isZero (sym (named .ensures)) ∙ nonzero (named .result) (test .if1 .left))),
+      λ proper tallied.
+          tallied-at (made .last .0) (made .result) (assignmentOf (x .a)) _ is refl (append-redundant (assignmentOf (x .a)) _ _ s)
+          (struck .strike-all .ensures t (x .e .vars) (assignmentOf (x .a)) (redundant s) (start .pre .0 .vars) proper tallied),
+    )
 
 pub settle-spec : {M : Type 1} → statement M
-settle-spec = tie.close (tie.spec vars-requires returns append-falsified-requires same-length returns-2)
+settle-spec = tie.close (tie.spec vars-requires returns strike-all-requires append-falsified-requires same-length same-length-2 returns-2)
