@@ -4,10 +4,12 @@
 mod translate;
 #[path = "src/watched.rs"]
 mod watched;
+#[path = "src/writers.rs"]
+mod writers;
 
 use std::path::{Path, PathBuf};
 use std::{env, fs, process};
-use translate::{modules, translate, TELLING};
+use translate::{modules, translate, watch_all, TELLING};
 use watched::WATCHED;
 
 /// The crates of the engine that run; `search` has its entry.
@@ -28,27 +30,38 @@ fn main() {
     }
 }
 
-/// All crates, each as a module. All that is watched must be in one of them.
+/// All crates, each as a module. All that is watched must be in one of them, and no tally may be
+/// changed unwatched.
 fn engine(crates: &Path) -> Result<String, String> {
-    let mut text = String::new();
+    let (mut text, mut files) = (String::new(), Vec::new());
     for name in CRATES {
-        text += &module(name, &crates.join(name).join("src"), name, "lib")?;
+        text += &module(name, &crates.join(name).join("src"), name, "lib", &mut files)?;
     }
+    writers::check(&files)?;
     match text.matches(TELLING).count() {
         count if count == WATCHED.len() => Ok(text),
         count => Err(format!("{count} functions are watched, not {}", WATCHED.len())),
     }
 }
 
-/// The file of this stem as a module of this name, with the modules that it declares inside it.
-fn module(krate: &str, folder: &Path, name: &str, stem: &str) -> Result<String, String> {
+/// The file of this stem as a module of this name, with the modules that it declares inside it. Each
+/// file is put to the list with its text, in which nothing is watched.
+fn module(
+    krate: &str,
+    folder: &Path,
+    name: &str,
+    stem: &str,
+    files: &mut Vec<(String, String)>,
+) -> Result<String, String> {
     let file = folder.join(stem).with_extension("rt");
     println!("cargo::rerun-if-changed={}", file.display());
     let named = |what: String| format!("{}: {what}", file.display());
     let source = fs::read_to_string(&file).map_err(|error| named(error.to_string()))?;
-    let mut text = translate(&format!("{krate}/{stem}"), &source, &CRATES).map_err(named)?;
+    let (short, text) = (format!("{krate}/{stem}"), translate(&source, &CRATES).map_err(named)?);
+    let mut watched = watch_all(&short, text.clone(), &WATCHED).map_err(named)?;
+    files.push((short, text));
     for inner in modules(&source) {
-        text += &module(krate, folder, inner, inner)?;
+        watched += &module(krate, folder, inner, inner, files)?;
     }
-    Ok(format!("pub mod {name} {{\nuse crate::engine::*;\n{text}}}\n"))
+    Ok(format!("pub mod {name} {{\nuse crate::engine::*;\n{watched}}}\n"))
 }

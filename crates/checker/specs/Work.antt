@@ -13,6 +13,7 @@ use Rattle.book.specs.Limits.{maxVars, maxClauses, maxDerived}
 use Rattle.book.specs.Reading.{WellFormed}
 use Rattle.book.specs.declared.Book.{Book}
 use Rattle.rows.specs.Rows.{clauseWords, clauses, sequentWords}
+use Rattle.rows.specs.Index.{tallyWords}
 use Rattle.search.specs.Values.{Handed}
 use Rattle.contract.specs.Check.{Lengths, tablesFault, Result, Result.refused, Result.ran}
 use Rattle.contract.specs.Filled.{Tables, lengths, answerOf, filled}
@@ -46,7 +47,7 @@ pub record Promised (n : ℕ) (cs : List Clause) (o : Assumptions) (allowance : 
 pub record Runnable (b : Book) (o : Assumptions) (places : ℕ) (t q rs : List ℕ) : Type 0 where
   pub workable : Workable b o t
   pub places-few : places ≤ maxDerived
-  pub tally-room : maxClauses + maxVars + maxDerived ≤ length q
+  pub tally-room : tallyWords (maxClauses + maxVars + maxDerived) ≤ length q
   pub list-room : sequentWords maxVars ≤ length rs
 
 -- the work tables hold the outcome of the run, the derived clauses after book and order

@@ -8,6 +8,7 @@ use answer::Answer;
 use book::Assumptions;
 use book::Book;
 use book::Reading;
+use rows::index;
 use rows::records;
 use rows::table;
 
@@ -61,7 +62,9 @@ fn run_book(
     ) {
         return Answer::Refused(9);
     }
-    let mut q = [0u64; Book::MAX_CLAUSES + (Book::MAX_VARS as usize) + Book::MAX_DERIVED];
+    let mut q = [0u64; index::WORDS
+        * ((Book::MAX_CLAUSES + (Book::MAX_VARS as usize) + Book::MAX_DERIVED + 63)
+            / index::BLOCK)];
     let mut rs = [0u64; records::WORDS * (Book::MAX_VARS as usize)];
     let done = decide::decide(b, o, allowance, pos.len(), t, &mut q, &mut rs);
     let found = done.answer;

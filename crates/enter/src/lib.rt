@@ -68,15 +68,15 @@ pub fn enter(
     let found = table::falsified_naming(t, q, m, v);
     let d = records::last(rs, s.records);
     let Lookup::Found(c) = found else {
-        tallies::unstrike(t, q, m, k, d.redundant);
+        tallies::unstrike(q, m, k, d.redundant);
         let after = sweep::sweep(t, q, rs, e, a, s);
         return swept(t, q, rs, e, a, after);
     };
     let all = state::undecided(e, a);
     if words::minus(all, d.redundant) == 0 {
-        tallies::unstrike(t, q, m, k, d.redundant);
+        tallies::unstrike(q, m, k, d.redundant);
         return Turn::Back(s);
     }
-    tallies::unstrike(t, q, m, k, all);
+    tallies::unstrike(q, m, k, all);
     Turn::Back(state::append_falsified(rs, e, a, c, s))
 }

@@ -15,7 +15,7 @@ use lib.ListN.{length}
 use borrow.Author.Tests.{eq-eqb, ne-eqb, ltb-true}
 use Rattle.words.specs.Words.{has, minus, meets, Within}
 use Rattle.words.proofs.Membership.{has-firstOf}
-use Rattle.words.proofs.Sets.{within-antisym, or-within, or-within-l, or-within-r, minus-within, in-minus, meets-false-intro}
+use Rattle.words.proofs.Sets.{minus-within, meets-false-intro}
 use Rattle.words.proofs.Count.{ones-within}
 use Rattle.steps.specs.Lists.{find, orElse}
 use Rattle.steps.specs.Clause.{Clause, Assignment, DSequent, decide, falsified, last, without}
@@ -26,7 +26,6 @@ use Rattle.steps.specs.Enter.{falsifiedNaming}
 use Rattle.steps.specs.Merge.{joinOn, join, cover, resolvent, learn, resolve, mergeOn, merge}
 use Rattle.steps.specs.Shape.{Proper, Shape, OneOf}
 use Rattle.steps.specs.Demands.{Free}
-use Rattle.steps.proofs.Places.{one-within}
 use Rattle.steps.proofs.Notes.{none-in-play, some-in-play}
 use Rattle.steps.proofs.Literals.{true-falsified, naming-some}
 use Rattle.steps.proofs.Resolvent.{resolvent-falsified, resolvent-proper}
@@ -64,19 +63,6 @@ pub struck-apart : {t q rs : List ℕ} {e : limits.Env} {a : work.Assignment} {v
 struck-apart {t} {q} {rs} {e} {a} {v} {s} x =
     ap (λ (k : ℕ). meets k (a .decided)) (x .others)
     ∙ meets-false-intro _ (a .decided) (λ k h. undecided-not-decided (envOf e) (assignmentOf a) k (minus-within (undecided (envOf e) (assignmentOf a)) v k h))
-
--- where all others are struck, striking it strikes all
-pub all-struck : (v x : ℕ) → OneOf v x → bitOr (minus x v) v ≡ x
-all-struck v x one =
-    within-antisym
-    (bitOr (minus x v) v)
-    x
-    (or-within (minus x v) v x (minus-within x v) (one-within v x one))
-    (λ k h. go k h (has v k) refl)
-  where
-    go : (k : ℕ) → has x k ≡ true → (p : Bool) → has v k ≡ p → has (bitOr (minus x v) v) k ≡ true
-    go k h true f = or-within-r (minus x v) v k f
-    go k h false f = or-within-l (minus x v) v k (in-minus x v k h f)
 
 -- ---- the join
 

@@ -11,6 +11,7 @@ use Rattle.steps.specs.State.{undecided, redundant}
 use Rattle.steps.specs.Shape.{Proper, AllProper, Shape, OneOf}
 use Rattle.rows.specs.Values.{assignmentOf, sequentOf, envOf}
 use Rattle.rows.specs.Rows.{clauseWords, clauses, sequentWords, sequents, stateOf, Room}
+use Rattle.rows.specs.Index.{tallyWords}
 use Rattle.rows.specs.Tally.{TalliedAt}
 use Rattle.rows.specs.declared.clause.Assignment.{Assignment}
 use Rattle.rows.specs.declared.records.DSequent.{DSequent}
@@ -37,7 +38,7 @@ pub record AllButOne (t q rs : List ℕ) (e : Env) (a : Assignment) (v : ℕ) (s
 pub record Learning (t q rs : List ℕ) (e : Env) (a : Assignment) (d : DSequent) (c : clause.Clause) (s : Counts) : Type 0 where
   pub room : Room rs e s
   pub capacity : clauseWords (e .capacity) ≤ length t
-  pub places : e .capacity ≤ length q
+  pub places : tallyWords (e .capacity) ≤ length q
   pub few : s .clauses ≤ e .capacity
   pub proper : AllProper (e .vars) (clauses t (s .clauses))
   pub apart : meets (redundant (stateOf t rs s)) (a .decided) ≡ false
@@ -50,7 +51,7 @@ pub record Learning (t q rs : List ℕ) (e : Env) (a : Assignment) (d : DSequent
 pub record Testing (t q rs : List ℕ) (e : Env) (a : Assignment) (v : ℕ) (s : Counts) : Type 0 where
   pub others-struck : AllButOne t q rs e a v s
   pub capacity : clauseWords (e .capacity) ≤ length t
-  pub places : e .capacity ≤ length q
+  pub places : tallyWords (e .capacity) ≤ length q
   pub clauses : s .clauses ≤ e .capacity
   pub shape : Shape (envOf e) (assignmentOf a) (stateOf t rs s)
 
@@ -67,5 +68,5 @@ pub record Mergeable (t rs : List ℕ) (e : Env) (a : Assignment) (v : ℕ) (b :
 
 -- there, the tallies are those of the second side, with room for as many as the run may hold
 pub record Merging (t q rs : List ℕ) (e : Env) (a : Assignment) (v : ℕ) (b : Bool) (s : Counts) : Type 0 where
-  pub places : e .capacity ≤ length q
+  pub places : tallyWords (e .capacity) ≤ length q
   pub tallied : TalliedAt t q rs (decide (assignmentOf a) v (not b)) s

@@ -9,6 +9,7 @@ ghost use Rattle.steps.specs.Sweep.{monotone as Monotone};
 ghost use Rattle.steps.specs.Merge.{cover, settle as Settle, learn as Learn, join as Join, mergeOn, merge as Merge};
 ghost use Rattle.rows.specs.Values.{clauseOf, assignmentOf, envOf};
 ghost use Rattle.rows.specs.Rows.{clauses, stateOf, Room};
+ghost use Rattle.rows.specs.Index.{tallyWords};
 ghost use Rattle.rows.specs.Tally.{TalliedAt};
 ghost use Rattle.merge.specs.Sides.{sideOf, TalliedSide};
 ghost use Rattle.merge.specs.Needs.{Joinable, Learning, Testing, Mergeable, Merging};
@@ -62,13 +63,13 @@ fn join(rs: &mut [u64], e: Env, a: Assignment, v: u64, r: u64, s: Counts) -> Cou
 
 // A clause of the table that the decisions here falsify: the empty one ends the run, and every other one strikes all undecided variables.
 fn settle(q: &mut [u64], rs: &mut [u64], e: Env, a: Assignment, c: Clause, s: Counts) -> Side
-    requires { ⌜ Room (now rs) e s × (s .clauses ≤ length (now q)) ⌝ }
+    requires { ⌜ Room (now rs) e s × (tallyWords (s .clauses) ≤ length (now q)) ⌝ }
     ensures { λ r. ⌜ ((t : List ℕ) → (sideOf t (now (rs .exit)) r ≡ Settle (envOf e) (assignmentOf a) (clauseOf c) (stateOf t (now (rs .entry)) s)) × (AllProper (e .vars) (clauses t (s .clauses)) → TalliedAt t (now (q .entry)) (now (rs .entry)) (assignmentOf a) s → TalliedSide t (now (q .exit)) (now (rs .exit)) a r)) ⌝ }
 {
     if clause::vars(c) == 0 {
         return Side::Ended(Ending::Cannot, a, s);
     }
-    tallies::strike_all(q, s.clauses);
+    tallies::restrike(q, s.clauses, state::undecided(e, a));
     Side::Up(state::append_falsified(rs, e, a, c, s))
 }
 
@@ -125,12 +126,12 @@ fn test(
             var: v,
             sign: false,
         };
-        return Side::Up(sweep::strike_by(t, q, rs, e, l, a, d, s));
+        return Side::Up(sweep::strike_by(t, q, rs, l, a, d, s));
     };
     let positive = table::in_play(t, q, m, v, true);
     let Lookup::Found(p) = positive else {
         let l = Literal { var: v, sign: true };
-        return Side::Up(sweep::strike_by(t, q, rs, e, l, a, d, s));
+        return Side::Up(sweep::strike_by(t, q, rs, l, a, d, s));
     };
     learn(t, q, rs, e, a, d, clause::resolvent(v, n, p), s)
 }
@@ -154,6 +155,6 @@ pub fn merge(
     let joined = join(rs, e, a, v, r, s);
     let d = records::last(rs, joined.records);
     tallies::withdraw(t, q, joined.clauses, v, !b);
-    tallies::unstrike(t, q, joined.clauses, second.redundant, d.redundant);
+    tallies::unstrike(q, joined.clauses, second.redundant, d.redundant);
     test(t, q, rs, e, a, v, joined)
 }

@@ -71,9 +71,9 @@ module _ {A : Type 0} where
   found none = false
   found (some x) = true
 
-  -- no value below i passes the test
-  abbrev pub NoneBelow : (A → Bool) → (ℕ → A) → ℕ → Type 0
-  NoneBelow p f i = (k : ℕ) → k < i → p (f k) ≡ false
+  -- of m values none below i passes the test
+  abbrev pub NoneBelow : (A → Bool) → (ℕ → A) → ℕ → ℕ → Type 0
+  NoneBelow p f m i = (k : ℕ) → k < i → k < m → p (f k) ≡ false
 
   module _ (p : A → Bool) where
     -- what fails the test is passed over
@@ -87,20 +87,20 @@ module _ {A : Type 0} where
     passed : {B : Type 0} (look : List A → B) (f : ℕ → A) (i m : ℕ)
         → ((x : A) (xs : List A) → p x ≡ false → look (x ∷ xs) ≡ look xs)
         → i ≤ m
-        → NoneBelow p f i
+        → NoneBelow p f m i
         → look (from f 0 m) ≡ look (from f i (m - i))
     passed look f zero m next h all = rw sub-zero
     passed look f (suc i) m next h all =
-        passed look f i m next (omega arith) (λ k l. all k (omega arith))
-        ∙ rw (from-step, add-one i) (next (f i) _ (all i (omega arith)))
+        passed look f i m next (omega arith) (λ k l b. all k (omega arith) b)
+        ∙ rw (from-step, add-one i) (next (f i) _ (all i (omega arith) (omega arith)))
 
     -- with all below i failing, the one at i is the first that passes
-    pub find-at : (f : ℕ → A) (i m : ℕ) → i < m → NoneBelow p f i → p (f i) ≡ true → find p (from f 0 m) ≡ some (f i)
+    pub find-at : (f : ℕ → A) (i m : ℕ) → i < m → NoneBelow p f m i → p (f i) ≡ true → find p (from f 0 m) ≡ some (f i)
     find-at f i m h all here = passed (find p) f i m find-next (omega arith) all ∙ rw (from-step f i m h, here, find)
 
     -- with all failing, none is found
-    pub find-none : (f : ℕ → A) (i m : ℕ) → m ≤ i → NoneBelow p f i → find p (from f 0 m) ≡ none
-    find-none f i m h all = passed (find p) f m m find-next (omega arith) (λ k l. all k (omega arith)) ∙ ap (find p) (from-end f m m (omega arith))
+    pub find-none : (f : ℕ → A) (i m : ℕ) → m ≤ i → NoneBelow p f m i → find p (from f 0 m) ≡ none
+    find-none f i m h all = passed (find p) f m m find-next (omega arith) (λ k l b. all k (omega arith) b) ∙ ap (find p) (from-end f m m (omega arith))
 
     -- some value passes exactly where the look for one finds something, here by a test q that says the same
     pub any-found : (q : A → Bool) → ((x : A) → p x ≡ q x) → (xs : List A) → any p xs ≡ found (find q xs)
@@ -112,12 +112,12 @@ module _ {A : Type 0} where
         go false e ih = rw (same x, e, find) ih
 
     -- the one at i passes
-    pub any-at : (f : ℕ → A) (i m : ℕ) → i < m → NoneBelow p f i → p (f i) ≡ true → any p (from f 0 m) ≡ true
+    pub any-at : (f : ℕ → A) (i m : ℕ) → i < m → NoneBelow p f m i → p (f i) ≡ true → any p (from f 0 m) ≡ true
     any-at f i m h all here = passed (any p) f i m any-next (omega arith) all ∙ rw (from-step f i m h, here)
 
     -- all fail
-    pub any-none : (f : ℕ → A) (i m : ℕ) → m ≤ i → NoneBelow p f i → any p (from f 0 m) ≡ false
-    any-none f i m h all = passed (any p) f m m any-next (omega arith) (λ k l. all k (omega arith)) ∙ ap (any p) (from-end f m m (omega arith))
+    pub any-none : (f : ℕ → A) (i m : ℕ) → m ≤ i → NoneBelow p f m i → any p (from f 0 m) ≡ false
+    any-none f i m h all = passed (any p) f m m any-next (omega arith) (λ k l b. all k (omega arith) b) ∙ ap (any p) (from-end f m m (omega arith))
 
     -- what passes is kept of both parts
     filter-append : (xs ys : List A) → filter p (xs ++ ys) ≡ filter p xs ++ filter p ys

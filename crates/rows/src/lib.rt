@@ -4,6 +4,7 @@
 // of them; rs is the table of D-sequents; e are the limits of a run, a the decisions, s the counts; c and d are a clause or a D-sequent; v and w are the word of
 // one variable, b a value of it; r is a word of decided variables, k one of redundant variables.
 pub mod clause;
+pub mod index;
 pub mod records;
 pub mod state;
 pub mod table;

@@ -10,7 +10,7 @@ use Rattle.steps.specs.State.{State, redundant}
 use Rattle.steps.specs.Tally.{Tally, tallyOf, talliesAt}
 use Rattle.steps.specs.Run.{noDecisions}
 use Rattle.rows.specs.Rows.{from}
-use Rattle.rows.specs.Tally.{wordOf}
+use Rattle.rows.specs.Tally.{wordOf, tallyAt}
 use Rattle.search.specs.Demands.{Demands}
 
 -- the value at the place of c, counted from i on
@@ -24,15 +24,15 @@ at-place f g i (d ∷ before) after c h =
 
 -- so it is for the tallies at a state
 rule : (q : List ℕ) (a : Assignment) (s : State)
-    → from (λ i. getD q i 0) 0 (length (talliesAt a s)) ≡ map wordOf (talliesAt a s)
+    → from (tallyAt q) 0 (length (talliesAt a s)) ≡ map wordOf (talliesAt a s)
     → (before after : List Clause) (c : Clause)
     → s .table ≡ before ++ (c ∷ after)
-    → getD q (length before) 0 ≡ wordOf (tallyOf a (redundant s) c)
+    → tallyAt q (length before) ≡ wordOf (tallyOf a (redundant s) c)
 unfolding talliesAt
 rule q a s h before after c is =
-    let words : from (λ i. getD q i 0) 0 (length (map (tallyOf a (redundant s)) (before ++ (c ∷ after)))) ≡ map wordOf (map (tallyOf a (redundant s)) (before ++ (c ∷ after))) =
+    let words : from (tallyAt q) 0 (length (map (tallyOf a (redundant s)) (before ++ (c ∷ after)))) ≡ map wordOf (map (tallyOf a (redundant s)) (before ++ (c ∷ after))) =
     rw is at h in
-    ap (λ (i : ℕ). getD q i 0) (sym (zero-add (length before))) ∙ at-place (λ i. getD q i 0) (tallyOf a (redundant s)) 0 before after c words
+    ap (tallyAt q) (sym (zero-add (length before))) ∙ at-place (tallyAt q) (tallyOf a (redundant s)) 0 before after c words
 
 pub demands : Demands
 demands = record { rule-by-rule = record { ended = λ q x d s. rule q d s; up = λ q s. rule q noDecisions s } }

@@ -3,7 +3,7 @@
 use mathlib.Core.Path.{_≡_, sym, ap, _∙_}
 use mathlib.Core.List.{List, map}
 use Prim.Native.Nat.{ℕ, _-_}
-use lib.ListN.{length, getD, length-map}
+use lib.ListN.{length, length-map}
 use Rattle.steps.specs.Clause as clause
 use Rattle.steps.specs.State.{Ending, redundant}
 use Rattle.steps.specs.Tally.{tallyOf as tallyAt, talliesAt}
@@ -13,7 +13,7 @@ use Rattle.answer.specs.declared.Tally.{Tally}
 use Rattle.answer.specs.declared.Answer.{Answer}
 use Rattle.answer.proofs.Ending.{tally-told}
 use Rattle.rows.specs.Rows.{from, clauseAt, clauses, clausesFrom, sequents, stateOf}
-use Rattle.rows.specs.Tally.{wordOf, TalliedAt}
+use Rattle.rows.specs.Tally.{wordOf, tallyAt as heldAt, TalliedAt}
 use Rattle.rows.specs.Values.{assignmentOf}
 use Rattle.rows.specs.declared.state.Counts.{Counts}
 use Rattle.rows.proofs.Lists.{from-length}
@@ -45,10 +45,10 @@ handed t rs m x s n r counts is =
 
 -- the tallies at a state are its clauses' tallies, in order
 at-state : (t q rs : List ℕ) (a : clause.Assignment) (s : Counts) → TalliedAt t q rs a s →
-    from (λ i. getD q i 0) 0 (length (talliesAt a (stateOf t rs s))) ≡ map wordOf (talliesAt a (stateOf t rs s))
+    from (heldAt q) 0 (length (talliesAt a (stateOf t rs s))) ≡ map wordOf (talliesAt a (stateOf t rs s))
 unfolding talliesAt
 at-state t q rs a s h =
-    ap (from (λ i. getD q i 0) 0) (length-map (clauses t (s .clauses)) (tallyAt a (redundant (stateOf t rs s))) ∙ clauses-length t (s .clauses))
+    ap (from (heldAt q) 0) (length-map (clauses t (s .clauses)) (tallyAt a (redundant (stateOf t rs s))) ∙ clauses-length t (s .clauses))
     ∙ demands .in-order t q (s .clauses) a (redundant (stateOf t rs s)) h
 
 -- so those of a side are what a run to it leaves

@@ -26,6 +26,7 @@ use Rattle.steps.proofs.ShapeKeep.{last-recorded, records-at-most-n, live-undec
 use Rattle.steps.proofs.ShapeSides.{shape-first}
 use Rattle.rows.specs.Values.{assignmentOf, envOf}
 use Rattle.rows.specs.Rows.{clauses, sequentWords, sequents, stateOf}
+use Rattle.rows.specs.Index.{tallyWords}
 use Rattle.rows.specs.Tally.{Tallied, TalliedAt, Changing}
 use Rattle.merge.specs.Sides.{sideOf, TalliedSide}
 use Rattle.search.specs.Needs.{Point, Held}
@@ -54,7 +55,7 @@ pub record Turned : Type 0 where
   pub rs′ : List ℕ
   pub same : length rs′ ≡ length rs
   pub q : List ℕ
-  pub places : e .capacity ≤ length q
+  pub places : tallyWords (e .capacity) ≤ length q
   pub q′ : List ℕ
   pub same-tallies : length q′ ≡ length q
   pub w : ℕ
@@ -119,6 +120,8 @@ module _ (x : Turned) where
       record {
         table = omega (arith, same-clauses, x .point .clauses, x .point .capacity);
         variable = branched-variable (x .e) (x .a) (x .w) (x .point .vars) branched;
+        vars = x .e .vars;
+        proper = turn-shape .0 .clauses;
         decisions = assignmentOf (x .a);
         free = free;
         struck = redundant (found x);
@@ -259,6 +262,8 @@ turning {x} {o} {f} u =
     record {
       table = omega (arith, one-point u .capacity, one-point u .clauses);
       variable = branched-variable (x .e) (x .a) (x .w) (x .point .vars) (branched x);
+      vars = x .e .vars;
+      proper = one-point u .shape .clauses;
       decisions = assignmentOf (x .a);
       free = free x;
       struck = redundant (stateOf (f .t₁) (f .rs₁) (u .one));

@@ -4,12 +4,12 @@
 use mathlib.Core.Path.{_≡_}
 use mathlib.Core.List.{List, _∷_, _++_}
 use Prim.Native.Nat.{ℕ}
-use lib.ListN.{length, getD}
+use lib.ListN.{length}
 use Rattle.steps.specs.Clause.{Clause, Assignment}
 use Rattle.steps.specs.State.{State, Ending, Side.up, Side.ended, redundant}
 use Rattle.steps.specs.Tally.{tallyOf}
 use Rattle.steps.specs.Run.{noDecisions}
-use Rattle.rows.specs.Tally.{wordOf}
+use Rattle.rows.specs.Tally.{wordOf, tallyAt}
 use Rattle.search.specs.Values.{LeftTallied}
 
 -- every rule c of the table at the end, derived ones among them, has at its number the word of its tallies: at a verdict and at a stop those of the decisions d and of
@@ -17,10 +17,10 @@ use Rattle.search.specs.Values.{LeftTallied}
 pub record RuleByRule : Type 0 where
   pub ended :
       (q : List ℕ) (x : Ending) (d : Assignment) (s : State) → LeftTallied q (ended x d s) → (before after : List Clause) (c : Clause) →
-      s .table ≡ before ++ (c ∷ after) → getD q (length before) 0 ≡ wordOf (tallyOf d (redundant s) c)
+      s .table ≡ before ++ (c ∷ after) → tallyAt q (length before) ≡ wordOf (tallyOf d (redundant s) c)
   pub up :
       (q : List ℕ) (s : State) → LeftTallied q (up s) → (before after : List Clause) (c : Clause) →
-      s .table ≡ before ++ (c ∷ after) → getD q (length before) 0 ≡ wordOf (tallyOf noDecisions (redundant s) c)
+      s .table ≡ before ++ (c ∷ after) → tallyAt q (length before) ≡ wordOf (tallyOf noDecisions (redundant s) c)
 
 pub record Demands : Type 0 where
   pub rule-by-rule : RuleByRule

@@ -9,6 +9,7 @@ use Rattle.steps.specs.Search.{isEmpty}
 use Rattle.steps.specs.Shape.{AllProper, Shape}
 use Rattle.rows.specs.Values.{assignmentOf, envOf}
 use Rattle.rows.specs.Rows.{clauseWords, clauses as clausesIn, sequentWords, stateOf}
+use Rattle.rows.specs.Index.{tallyWords}
 use Rattle.enter.specs.Turns.{Entering}
 use Rattle.rows.specs.declared.clause.Assignment.{Assignment}
 use Rattle.rows.specs.declared.state.Counts.{Counts}
@@ -26,7 +27,7 @@ pub record Point (t rs : List ℕ) (e : Env) (a : Assignment) (s : Counts) : Typ
 
 -- the tallies at a point are those of the struck set k, of undecided variables, with room for as many as the run may hold
 pub record Held (t q : List ℕ) (e : Env) (a : Assignment) (k : ℕ) (s : Counts) : Type 0 where
-  pub places : e .capacity ≤ length q
+  pub places : tallyWords (e .capacity) ≤ length q
   pub entering : Entering t q e a k s
 
 -- the starting point: room in the work tables, and m clauses that name only the variables
@@ -35,5 +36,5 @@ pub record Startable (t q rs : List ℕ) (e : Env) (m : ℕ) : Type 0 where
   pub capacity : clauseWords (e .capacity) ≤ length t
   pub clauses : m ≤ e .capacity
   pub room : sequentWords (e .vars) ≤ length rs
-  pub places : e .capacity ≤ length q
+  pub places : tallyWords (e .capacity) ≤ length q
   pub proper : AllProper (e .vars) (clausesIn t m)

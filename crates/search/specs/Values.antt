@@ -2,7 +2,7 @@
 use mathlib.Core.Path.{_≡_}
 use mathlib.Core.List.{List, map}
 use Prim.Native.Nat.{ℕ, _-_}
-use lib.ListN.{length, getD}
+use lib.ListN.{length}
 use Rattle.steps.specs.Clause.{Assignment}
 use Rattle.steps.specs.State as state
 use Rattle.steps.specs.State.{Side.up, Side.ended}
@@ -14,7 +14,7 @@ use Rattle.answer.specs.Answer.{tallyIn, ofOutcome}
 use Rattle.answer.specs.declared.Answer.{Answer}
 use Rattle.answer.specs.declared.Tally.{Tally}
 use Rattle.rows.specs.Rows.{from, clausesFrom, sequents}
-use Rattle.rows.specs.Tally.{wordOf}
+use Rattle.rows.specs.Tally.{wordOf, tallyAt}
 use Rattle.rows.specs.declared.state.Counts.{Counts}
 
 -- the counts, where the first m clauses are book and order
@@ -35,4 +35,4 @@ halted a (branch v b s) = up s
 
 -- the tallies that a run from no decisions leaves in q are those of the rules, in order, where it went up or ended
 abbrev pub LeftTallied : List ℕ → state.Side → Type 0
-LeftTallied q side = from (λ i. getD q i 0) 0 (length (talliesLeft noDecisions side)) ≡ map wordOf (talliesLeft noDecisions side)
+LeftTallied q side = from (tallyAt q) 0 (length (talliesLeft noDecisions side)) ≡ map wordOf (talliesLeft noDecisions side)

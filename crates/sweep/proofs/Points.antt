@@ -1,16 +1,15 @@
 -- What a point that is ready gives: its list fits the work table, with one D-sequent more where a variable is live, it is ready still after a change of its
 -- list, and the live variables are as the code computes them. For each D-sequent strikes one variable more.
-use mathlib.Core.Path.{_≡_, refl, sym, ap, ap₂, _∙_, subst⁻¹}
-use mathlib.Core.Bool.{Bool, true, false}
+use mathlib.Core.Path.{_≡_, sym, ap, ap₂, _∙_, subst⁻¹}
+use mathlib.Core.Bool.{false}
 use mathlib.Core.List.{List}
 use Prim.Native.Nat.{ℕ, _+_, _≤_, _<_}
 use native.Mathlib.Omega.{arith}
 use borrow.Author.Tests.{ltb-true}
-use lib.Bits.{bitOr}
 use lib.ListN.{length}
-use Rattle.words.specs.Words.{isZero, has, minus, Within}
+use Rattle.words.specs.Words.{isZero, minus}
 use Rattle.words.proofs.Membership.{has-firstOf}
-use Rattle.words.proofs.Sets.{some-member, within-antisym, or-within, or-within-l, or-within-r, minus-within, in-minus}
+use Rattle.words.proofs.Sets.{some-member}
 use Rattle.steps.specs.Clause as clause
 use Rattle.steps.specs.Clause.{DSequent, last}
 use Rattle.steps.specs.State as state
@@ -76,27 +75,6 @@ pub live-is : (e : state.Env) (a : clause.Assignment) (s : State) (x u : ℕ) (d
     → x ≡ live e a s
 unfolding live
 live-is e a s x u d is p q = is ∙ ap₂ (λ (y : ℕ) (z : DSequent). minus y (z .redundant)) p q
-
--- where w is all that is live, it and the struck ones are all that is undecided
-pub last-live : {t rs : List ℕ} {e : Env} {a : Assignment} {s : Counts} {w : ℕ}
-    → Ready t rs e a s
-    → live (envOf e) (assignmentOf a) (stateOf t rs s) ≡ w
-    → bitOr (redundant (stateOf t rs s)) w ≡ undecided (envOf e) (assignmentOf a)
-unfolding live
-last-live {t} {rs} {e} {a} {s} {w} p is = ap (bitOr k) (sym is) ∙ within-antisym (bitOr k (minus u k)) u (or-within k (minus u k) u off (minus-within u k)) (λ j h. go j h (has k j) refl)
-  where
-    u : ℕ
-    u = undecided (envOf e) (assignmentOf a)
-
-    k : ℕ
-    k = redundant (stateOf t rs s)
-
-    off : Within k u
-    off = last-recorded (envOf e) (assignmentOf a) (stateOf t rs s) (p .shape) .off
-
-    go : (j : ℕ) → has u j ≡ true → (b : Bool) → has k j ≡ b → has (bitOr k (minus u k)) j ≡ true
-    go j h true m = or-within-l k (minus u k) j m
-    go j h false m = or-within-r k (minus u k) j (in-minus u k j h m)
 
 -- a live variable is one of the 64
 pub live-variable : {t rs : List ℕ} {e : Env} {a : Assignment} {s : Counts} {w : ℕ} → Ready t rs e a s → OneOf w (live (envOf e) (assignmentOf a) (stateOf t rs s)) → Variable w

@@ -3,15 +3,13 @@ use mathlib.Core.Path.{_≡_}
 use mathlib.Core.List.{List}
 use mathlib.Core.Option.{Option, some, none}
 use Prim.Native.Nat.{ℕ, _+_, _≤_}
-use lib.Bits.{bitOr}
 use lib.ListN.{length}
 use Rattle.steps.specs.Clause as clause
 use Rattle.steps.specs.Notes as notes
-use Rattle.steps.specs.State.{undecided, redundant}
-use Rattle.steps.specs.Shape.{AllProper, Shape}
+use Rattle.steps.specs.Shape.{Shape}
 use Rattle.rows.specs.Values.{assignmentOf, sequentOf, envOf}
-use Rattle.rows.specs.Rows.{clauseWords, clauses, sequentWords, sequents, stateOf}
-use Rattle.rows.specs.Tally.{TalliedAt}
+use Rattle.rows.specs.Rows.{clauseWords, sequentWords, sequents, stateOf}
+use Rattle.rows.specs.Tally.{TalliedAt, Variable}
 use Rattle.rows.specs.declared.clause.Assignment.{Assignment}
 use Rattle.rows.specs.declared.records.DSequent.{DSequent}
 use Rattle.rows.specs.declared.state.Counts.{Counts}
@@ -38,12 +36,10 @@ pub record Ready (t rs : List ℕ) (e : Env) (a : Assignment) (s : Counts) : Typ
   pub room : sequentWords (e .vars) ≤ length rs
   pub shape : Shape (envOf e) (assignmentOf a) (stateOf t rs s)
 
--- the variable of l, the last that is not struck, can be struck after the last D-sequent, d, for which there is room
-pub record Striking (t q rs : List ℕ) (e : Env) (l : Literal) (a : clause.Assignment) (d : DSequent) (s : Counts) : Type 0 where
-  pub vars : e .vars ≤ 64
+-- the variable of l can be struck after the last D-sequent, d, for which there is room
+pub record Striking (t q rs : List ℕ) (l : Literal) (a : clause.Assignment) (d : DSequent) (s : Counts) : Type 0 where
+  pub variable : Variable (l .var)
   pub table : clauseWords (s .clauses) ≤ length t
-  pub proper : AllProper (e .vars) (clauses t (s .clauses))
   pub next : sequentWords (s .records + 1) ≤ length rs
-  pub all : bitOr (redundant (stateOf t rs s)) (l .var) ≡ undecided (envOf e) a
   pub last : sequentOf d ≡ clause.last (sequents rs (s .records))
   pub tallied : TalliedAt t q rs a s

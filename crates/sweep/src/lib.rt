@@ -1,20 +1,22 @@
-// Step 3: the sweep, which strikes variables that no longer matter. It goes by rule. Which clauses are inactive, and which name a redundant variable, their tallies say.
+// Step 3: the sweep, which strikes variables that no longer matter. It goes by rule. Which clauses are in play, and which name a redundant variable, the index says.
 ghost use mathlib.Core.Path.{_≡_};
-ghost use Prim.Native.Nat.{ℕ, _≤_, _<_};
+ghost use mathlib.Core.Bool.{false};
+ghost use Prim.Native.Nat.{ℕ, _≤_};
 ghost use lib.Bits.{bitOr};
-ghost use lib.Count.{ones};
 ghost use lib.ListN.{length};
 ghost use Rattle.words.specs.Words.{members};
 ghost use Rattle.steps.specs.Notes.{note as Note, notes as Notes, choice as Choice, keeper as Keeper, gather as Gather};
-ghost use Rattle.steps.specs.Clause.{Assignment as Decisions, keepers};
+ghost use Rattle.steps.specs.Clause.{Assignment as Decisions, names, inactive};
 ghost use Rattle.steps.specs.Sweep.{strike as Strike, sweep as Sweep};
 ghost use Rattle.rows.specs.Values.{clauseOf, assignmentOf, envOf};
 ghost use Rattle.rows.specs.Rows.{clauseWords, clauses, stateOf};
-ghost use Rattle.rows.specs.Tally.{Holds, Tallied, TalliedAt, Variable};
+ghost use Rattle.rows.specs.Index.{tallyWords};
+ghost use Rattle.rows.specs.Tally.{Tallied, TalliedAt, Variable};
 ghost use Rattle.sweep.specs.Sweep.{notesOf, literalOf, choiceOf, Ready, Striking};
 use rows::clause;
 use rows::clause::Assignment;
 use rows::clause::Clause;
+use rows::index;
 use rows::records;
 use rows::records::DSequent;
 use rows::state;
@@ -22,7 +24,6 @@ use rows::state::Counts;
 use rows::state::Env;
 use rows::table;
 use rows::tallies;
-use rows::tally;
 
 // The literals noted, positive and negative.
 struct Noted {
@@ -42,74 +43,67 @@ enum Chosen {
     Nothing,
 }
 
-// A clause's turn in the notes, with its tallies x: an inactive one adds nothing.
-fn note(c: Clause, x: u64, seen: Noted) -> Noted
-    ensures { λ r. ⌜ ((a : Decisions) (k : ℕ) → ones (keepers a (clauseOf c)) < 128 → Holds a k (clauseOf c) x → notesOf r ≡ Note a k (clauseOf c) (notesOf seen)) ⌝ }
+// A clause's turn in the notes, which is in play: it adds its literals.
+fn note(c: Clause, seen: Noted) -> Noted
+    ensures { λ r. ⌜ ((a : Decisions) (k : ℕ) → inactive a k (clauseOf c) ≡ false → notesOf r ≡ Note a k (clauseOf c) (notesOf seen)) ⌝ }
 {
-    if tally::is_active(x) {
-        return Noted {
-            pos: seen.pos | c.pos,
-            neg: seen.neg | c.neg,
-        };
+    Noted {
+        pos: seen.pos | c.pos,
+        neg: seen.neg | c.neg,
     }
-    seen
 }
 
-// The decision that a clause with the tallies x adds for the literal l, and 0 where it adds none.
-fn keeper(c: Clause, x: u64, l: Literal, a: Assignment) -> u64
-    ensures { λ r. ⌜ ((k : ℕ) → Holds (assignmentOf a) k (clauseOf c) x → r ≡ Keeper (literalOf l) (assignmentOf a) k (clauseOf c)) ⌝ }
+// The decision that a clause adds for the literal l, and 0 where it adds none. It names a redundant variable where `struck` says so.
+fn keeper(c: Clause, struck: bool, l: Literal, a: Assignment) -> u64
+    ensures { λ r. ⌜ ((k : ℕ) → struck ≡ names k (clauseOf c) → r ≡ Keeper (literalOf l) (assignmentOf a) k (clauseOf c)) ⌝ }
 {
     if !words::meets(clause::literals(l.sign, c), l.var) {
         return 0;
     }
-    if tally::is_struck(x) {
+    if struck {
         return 0;
     }
     words::lowest_of(clause::keepers(a, c))
 }
 
-// The first round's walk: notes the literals of the clauses that are not inactive.
+// The walk of a round: notes the literals of the clauses in play.
 fn notes(t: &[u64], q: &[u64], m: usize) -> Noted
-    requires { ⌜ (clauseWords m ≤ length (now t)) × (m ≤ length (now q)) ⌝ }
+    requires { ⌜ (clauseWords m ≤ length (now t)) × (tallyWords m ≤ length (now q)) ⌝ }
     ensures { λ r. ⌜ ((a : Decisions) (k : ℕ) → Tallied (now (t .entry)) (now (q .entry)) m a k → notesOf r ≡ Notes a k (clauses (now (t .entry)) m)) ⌝ }
 {
     let mut seen = Noted { pos: 0, neg: 0 };
-    let mut i = 0;
-    while i < m {
-        seen = note(table::clause_at(t, i), q[i], seen);
-        i += 1;
+    let mut at = index::first(q, m, index::PLAYING, index::PLAYING);
+    while at.number < m {
+        seen = note(table::clause_at(t, at.number), seen);
+        at = index::next(q, m, index::PLAYING, index::PLAYING, at);
     }
     seen
 }
 
-// A later round's walk: strikes the variable w, and notes the literals of the clauses that are not inactive from then on.
-fn strike(t: &[u64], q: &mut [u64], m: usize, w: u64) -> Noted
-    requires { ⌜ (clauseWords m ≤ length (now t)) × (m ≤ length (now q)) × Variable w ⌝ }
-    ensures { λ r. ⌜ ((a : Decisions) (k : ℕ) → Tallied (now (t .entry)) (now (q .entry)) m a k → Tallied (now (t .entry)) (now (q .exit)) m a (bitOr k w) × (notesOf r ≡ Notes a (bitOr k w) (clauses (now (t .entry)) m))) ⌝ }
+// A later round: strikes the variable w, and gives the notes from then on. Where no clause in play names it they are those before, `seen`.
+fn strike(t: &[u64], q: &mut [u64], m: usize, w: u64, seen: Noted) -> Noted
+    requires { ⌜ (clauseWords m ≤ length (now t)) × (tallyWords m ≤ length (now q)) × Variable w ⌝ }
+    ensures { λ r. ⌜ ((a : Decisions) (k : ℕ) → Tallied (now (t .entry)) (now (q .entry)) m a k → notesOf seen ≡ Notes a k (clauses (now (t .entry)) m) → Tallied (now (t .entry)) (now (q .exit)) m a (bitOr k w) × (notesOf r ≡ Notes a (bitOr k w) (clauses (now (t .entry)) m))) ⌝ }
 {
-    let v = words::lowest_var(w);
-    let mut seen = Noted { pos: 0, neg: 0 };
-    let mut i = 0;
-    while i < m {
-        let c = table::clause_at(t, i);
-        let x = tally::strike(q[i], c, v);
-        q[i] = x;
-        seen = note(c, x, seen);
-        i += 1;
+    if tallies::strike(q, m, w) {
+        return notes(t, q, m);
     }
     seen
 }
 
-// The decisions by which the clauses with l are inactive, and those of r.
+// The decisions by which the clauses with l are inactive, and those of r. It goes through the clauses that name the variable of l.
 fn gather(t: &[u64], q: &[u64], m: usize, l: Literal, a: Assignment, r: u64) -> u64
-    requires { ⌜ (clauseWords m ≤ length (now t)) × (m ≤ length (now q)) ⌝ }
+    requires { ⌜ (clauseWords m ≤ length (now t)) × (tallyWords m ≤ length (now q)) × Variable (l .var) ⌝ }
     ensures { λ x. ⌜ ((k : ℕ) → Tallied (now (t .entry)) (now (q .entry)) m (assignmentOf a) k → x ≡ Gather (literalOf l) (assignmentOf a) k r (clauses (now (t .entry)) m)) ⌝ }
 {
+    let row = index::VARS + (words::lowest_var(l.var) as usize);
     let mut reasons = r;
-    let mut i = 0;
-    while i < m {
-        reasons = reasons | keeper(table::clause_at(t, i), q[i], l, a);
-        i += 1;
+    let mut at = index::first(q, m, row, row);
+    while at.number < m {
+        let i = at.number;
+        let struck = index::is_in(q, index::STRUCK, i);
+        reasons = reasons | keeper(table::clause_at(t, i), struck, l, a);
+        at = index::next(q, m, row, row, at);
     }
     reasons
 }
@@ -129,22 +123,21 @@ fn choice(live: u64, seen: Noted) -> Chosen
     })
 }
 
-// Strikes the variable of l, the last that is not struck, which passes the test by this literal. d is the last D-sequent.
+// Strikes the variable of l, which passes the test by this literal, and takes no notes. d is the last D-sequent.
 pub fn strike_by(
     t: &[u64],
     q: &mut [u64],
     rs: &mut [u64],
-    e: Env,
     l: Literal,
     a: Assignment,
     d: DSequent,
     s: Counts,
 ) -> Counts
-    requires { ⌜ Striking (now t) (now q) (now rs) e l (assignmentOf a) d s ⌝ }
+    requires { ⌜ Striking (now t) (now q) (now rs) l (assignmentOf a) d s ⌝ }
     ensures { λ r. ⌜ (stateOf (now (t .entry)) (now (rs .exit)) r ≡ Strike (assignmentOf a) (l .var) (Gather (literalOf l) (assignmentOf a) (d .redundant) (d .decided) (clauses (now (t .entry)) (s .clauses))) (stateOf (now (t .entry)) (now (rs .entry)) s)) × TalliedAt (now (t .entry)) (now (q .exit)) (now (rs .exit)) (assignmentOf a) r ⌝ }
 {
     let on = gather(t, q, s.clauses, l, a, d.decided);
-    tallies::strike_all(q, s.clauses);
+    tallies::strike(q, s.clauses, l.var);
     state::append(rs, a, on, d.redundant | l.var, s)
 }
 
@@ -168,10 +161,10 @@ pub fn sweep(t: &[u64], q: &mut [u64], rs: &mut [u64], e: Env, a: Assignment, s:
             return now;
         };
         if live == l.var {
-            return strike_by(t, q, rs, e, l, a, d, now);
+            return strike_by(t, q, rs, l, a, d, now);
         }
         let on = gather(t, q, now.clauses, l, a, d.decided);
-        seen = strike(t, q, now.clauses, l.var);
+        seen = strike(t, q, now.clauses, l.var, seen);
         now = state::append(rs, a, on, d.redundant | l.var, now);
     }
 }

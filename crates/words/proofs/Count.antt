@@ -3,7 +3,7 @@
 -- The number of zeros below a word's lowest set digit is the number of its lowest member, by induction on the digits.
 use mathlib.Core.Path.{_≡_, refl, sym, ap, ap₂, _∙_, subst}
 use mathlib.Core.Logic.{_≢_}
-use mathlib.Core.Bool.{Bool, true, false, not, _&&_, _||_, true≢false}
+use mathlib.Core.Bool.{Bool, true, false, not, _&&_, _||_, true≢false, and-true, and-false}
 use Prim.Native.Nat.{ℕ, zero, suc, _+_, _*_, _/_, _%_, _^_, _≤_, _<_}
 use native.Mathlib.Nat.{pow-suc}
 use native.Mathlib.Numerals.{add-one}
@@ -14,10 +14,10 @@ use lib.Bits.{bitAnd, bitOr, and-comm}
 use lib.Count.{ones, onesIn, ones-step, ones-ones, trailingZeros, under}
 use lib.Pow.{pow-lt, shr-lt}
 use Rattle.words.specs.Words.{isZero, odd, digit, has, minus, meets, firstOf, lowest, Within}
-use Rattle.words.proofs.Membership.{lowest-digit, halves, halves-at, odd-of, half-of, has-bit, has-bit-eq, has-firstOf, bit-halves, digit-minus, and-halves, or-halves, minus-halves}
-use Rattle.words.proofs.Sets.{is-zero, nonzero, member-nonzero, half-nonzero, some-member, within-antisym, and-whole, bit-within, minus-empty, lt-within}
-use Rattle.words.proofs.Unions.{meets-bit}
-use Rattle.words.proofs.Lowest.{lowest-odd, lowest-even, lowest-is}
+use Rattle.words.proofs.Membership.{lowest-digit, halves, halves-at, odd-of, half-of, has-bit, has-bit-other, has-bit-eq, has-minus, has-firstOf, bit-halves, digit-minus, and-halves, or-halves, minus-halves}
+use Rattle.words.proofs.Sets.{is-zero, nonzero, member-nonzero, half-nonzero, some-member, within-antisym, and-whole, bit-within, minus-empty, with-rest, lt-within}
+use Rattle.words.proofs.Unions.{meets-or, meets-bit}
+use Rattle.words.proofs.Lowest.{lowest-odd, lowest-even, lowest-is, lowest-within}
 
 -- the empty word has none
 pub ones-zero : ones 0 ≡ 0
@@ -170,6 +170,29 @@ trailing-bit w k h =
     let n = member-nonzero (2 ^ k) k (has-bit k) in
     let t = trailingZeros w (2 ^ k) in
     sym (has-bit-eq k t (trailing-member w (2 ^ k) n (pow-lt h) .0))
+
+-- without its lowest member a word has every other member
+pub rest-other : (w x : ℕ) → isZero x ≡ false → x < 2 ^ w → (k : ℕ) → k ≢ trailingZeros w x → has (minus x (lowest x)) k ≡ has x k
+rest-other w x n h k other =
+    let t = trailingZeros w x in
+    has-minus x (lowest x) k
+    ∙ ap (λ (p : Bool). has x k && not p) (ap (λ (y : ℕ). has y k) (lowest-trailing w x n h) ∙ has-bit-other t k (λ e. other (sym e)))
+    ∙ and-true (has x k)
+
+-- and not that one
+pub rest-lowest : (w x : ℕ) → isZero x ≡ false → x < 2 ^ w → has (minus x (lowest x)) (trailingZeros w x) ≡ false
+rest-lowest w x n h =
+    let t = trailingZeros w x in
+    has-minus x (lowest x) t
+    ∙ ap (λ (p : Bool). has x t && not p) (ap (λ (y : ℕ). has y t) (lowest-trailing w x n h) ∙ has-bit t)
+    ∙ and-false (has x t)
+
+-- to meet a word is to have its lowest member, or to meet what is left without it
+pub meets-lowest : (w x y : ℕ) → isZero y ≡ false → y < 2 ^ w → meets x y ≡ (has x (trailingZeros w y) || meets x (minus y (lowest y)))
+meets-lowest w x y n h =
+    ap (meets x) (sym (with-rest y (lowest y) (lowest-within y)))
+    ∙ meets-or x (lowest y) (minus y (lowest y))
+    ∙ ap (λ (p : Bool). p || meets x (minus y (lowest y))) (ap (meets x) (lowest-trailing w y n h) ∙ meets-bit x (trailingZeros w y))
 
 -- of one variable a word has one member or none
 pub ones-bit-and : (x k : ℕ) → ones (bitAnd x (2 ^ k)) ≡ digit (has x k)

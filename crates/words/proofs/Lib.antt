@@ -6,4 +6,4 @@ pub mod Unions
 pub mod Lowest
 pub mod Count
 pub mod Demands
-mod Shift
+pub mod Shift

@@ -90,7 +90,7 @@ unfolding members
 members-zero = refl
 
 -- what is left without the lowest member is smaller
-rest-lt : (x : ℕ) → isZero x ≡ false → minus x (lowest x) < x
+pub rest-lt : (x : ℕ) → isZero x ≡ false → minus x (lowest x) < x
 unfolding minus meets
 rest-lt x n =
     let m = lowest-is x n in

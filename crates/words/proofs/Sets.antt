@@ -203,6 +203,33 @@ minus-both a b c =
     fewer true false r = refl
     fewer false q r = refl
 
+-- a word without what it lacks of another is what the two share
+pub minus-minus : (a b : ℕ) → minus a (minus a b) ≡ bitAnd a b
+minus-minus a b =
+    ext
+    (minus a (minus a b))
+    (bitAnd a b)
+    (λ k. rw (has-minus a (minus a b) k, has-minus a b k, has-and a b k) (shared (has a k) (has b k)))
+  where
+    shared : (p q : Bool) → (p && not (p && not q)) ≡ (p && q)
+    shared true true = refl
+    shared true false = refl
+    shared false q = refl
+
+-- a word within another and what the other has besides
+pub with-rest : (a b : ℕ) → Within b a → bitOr b (minus a b) ≡ a
+with-rest a b f =
+    ext
+    (bitOr b (minus a b))
+    a
+    (λ k. rw (has-or b (minus a b) k, has-minus a b k) (split (has a k) (has b k) (f k)))
+  where
+    split : (p q : Bool) → (q ≡ true → p ≡ true) → (q || (p && not q)) ≡ p
+    split true true h = refl
+    split true false h = refl
+    split false true h = sym (h refl)
+    split false false h = refl
+
 -- ---- the first n variables: the words of n digits
 
 -- a word of the first n variables is below 2 to the power n

@@ -38,6 +38,14 @@ pub fn lowest_of(x: u64) -> u64
     word_of(lowest_var(x))
 }
 
+// x without its lowest member.
+pub fn rest_of(x: u64) -> u64
+    requires { ⌜ 0 < x ⌝ }
+    ensures { λ r. ⌜ r ≡ minus x (lowest x) ⌝ }
+{
+    x & (x - 1)
+}
+
 // How many members x has.
 pub fn count_of(x: u64) -> u32
     ensures { λ r. ⌜ r ≡ ones x ⌝ }

@@ -1,12 +1,15 @@
-//! The same books through the library, the port and an outside solver's process, in one run and in
-//! turns, as a table. Times are medians of repeated runs; ratios hold across machines, times do not.
+//! The same books through the library, the port, the outside solvers whose libraries are there and an
+//! outside solver's process, in one run and in turns, as a table. Times are medians of repeated runs;
+//! ratios hold across machines, times do not.
 
+use crate::in_process::{Clauses, InProcess};
 use crate::outside::Solver;
 use crate::random::Random;
 use crate::shapes;
 use optbook::bytes::book_bytes;
 use optbook::{Book, Order};
-use port::{Places, Request, PROGRAM_ALLOWANCE, PROGRAM_PLACES, PROGRAM_RECORD_PLACES};
+use port::{Ending, Outcome, Places, Request};
+use port::{PROGRAM_ALLOWANCE, PROGRAM_PLACES, PROGRAM_RECORD_PLACES};
 use std::hint::black_box;
 use std::time::{Duration, Instant};
 
@@ -14,14 +17,15 @@ use std::time::{Duration, Instant};
 const ROW_TIME: Duration = Duration::from_millis(1500);
 /// Repeated runs of a row: at least and at most.
 const REPEATS: (usize, usize) = (5, 501);
-/// Repeated runs of a row through the outside solver.
+/// Repeated runs of a row through the outside solver's process.
 const SOLVER_REPEATS: usize = 5;
 
-/// A book and an order, as bytes and as they were made.
+/// A book and an order as they were made, the book's bytes, and the clauses of both.
 struct Input {
     order: Order,
     book: Book,
     bytes: Vec<u8>,
+    clauses: Clauses,
 }
 
 /// Books of one kind.
@@ -35,15 +39,21 @@ struct Times {
     branchings: u64,
     library: Option<Duration>,
     port: Duration,
+    in_process: Vec<Duration>,
     solver: Option<Duration>,
 }
 
 /// Measures every row and prints the table.
-pub fn run(solver: Result<Solver, String>, seed: u64) -> Result<(), String> {
-    println!("{}", heading(&solver));
+pub fn run(
+    solver: Result<Solver, String>,
+    in_process: Vec<Result<InProcess, String>>,
+    seed: u64,
+) -> Result<(), String> {
+    println!("{}", heading(&solver, &in_process));
     let solver = solver.ok();
+    let in_process: Vec<InProcess> = in_process.into_iter().flatten().collect();
     for row in rows(seed) {
-        let times = measure(&row, solver.as_ref())?;
+        let times = measure(&row, &in_process, solver.as_ref())?;
         println!("{}", line(&row, &times));
     }
     if let Some(solver) = &solver {
@@ -59,12 +69,10 @@ pub fn run(solver: Result<Solver, String>, seed: u64) -> Result<(), String> {
     Ok(())
 }
 
-fn heading(solver: &Result<Solver, String>) -> String {
-    let (solver, note) = match solver {
-        Ok(solver) => (solver.name(), String::new()),
-        Err(missing) => ("solver".to_string(), format!("({missing})\n\n")),
-    };
-    let columns = [
+/// The head of the table, after a note on each solver that is missing.
+fn heading(solver: &Result<Solver, String>, in_process: &[Result<InProcess, String>]) -> String {
+    let mut notes = String::new();
+    let mut columns = [
         "book",
         "books",
         "rules",
@@ -74,9 +82,24 @@ fn heading(solver: &Result<Solver, String>) -> String {
         "port µs a run",
         "port µs a branching",
         "library / port",
-        &format!("{solver} process µs a run"),
-    ];
-    format!("{note}| {} |\n|---|{}", columns.join(" | "), "---:|".repeat(columns.len() - 1))
+    ]
+    .map(str::to_string)
+    .to_vec();
+    for solver in in_process {
+        match solver {
+            Ok(solver) => columns.push(format!("{} in process µs a run", solver.name())),
+            Err(missing) => notes += &format!("({missing})\n\n"),
+        }
+    }
+    let solver = match solver {
+        Ok(solver) => solver.name(),
+        Err(missing) => {
+            notes += &format!("({missing})\n\n");
+            "solver".to_string()
+        }
+    };
+    columns.push(format!("{solver} process µs a run"));
+    format!("{notes}| {} |\n|---|{}", columns.join(" | "), "---:|".repeat(columns.len() - 1))
 }
 
 /// One line of the table: everything a book, on the mean of the row's books.
@@ -93,7 +116,7 @@ fn line(row: &Row, times: &Times) -> String {
         _ => "-".to_string(),
     };
     let ratio = times.library.map(|library| library.as_secs_f64() / times.port.as_secs_f64());
-    let cells = [
+    let mut cells = vec![
         row.name.clone(),
         books.to_string(),
         (rules / books).to_string(),
@@ -103,8 +126,9 @@ fn line(row: &Row, times: &Times) -> String {
         a_run(Some(times.port)),
         a_branching(Some(times.port)),
         ratio.map_or("-".to_string(), |ratio| format!("{ratio:.2}")),
-        a_run(times.solver),
     ];
+    cells.extend(times.in_process.iter().map(|&time| a_run(Some(time))));
+    cells.push(a_run(times.solver));
     format!("| {} |", cells.join(" | "))
 }
 
@@ -151,13 +175,16 @@ fn option_book(random: &mut Random, options: usize) -> Input {
 }
 
 fn input(order: Order, book: Book) -> Input {
-    Input { order, bytes: book_bytes(&book), book }
+    Input { order, bytes: book_bytes(&book), clauses: Clauses::of(order, &book), book }
 }
 
-/// The medians of repeated runs, the library and the port in turns.
-fn measure(row: &Row, solver: Option<&Solver>) -> Result<Times, String> {
+/// The medians of repeated runs: the library and the port in turns, then the solvers.
+fn measure(row: &Row, in_process: &[InProcess], solver: Option<&Solver>) -> Result<Times, String> {
+    for solver in in_process {
+        agrees(row, solver)?;
+    }
     let mut library = library();
-    let mut port = run_port;
+    let mut port = |input: &Input| black_box(run_port(input)).branchings;
     let (once, branchings) = timed(row, &mut port);
     let repeats = repeats(once);
     let (mut library_times, mut port_times) = (Vec::new(), Vec::new());
@@ -171,8 +198,21 @@ fn measure(row: &Row, solver: Option<&Solver>) -> Result<Times, String> {
         branchings,
         library: median(library_times),
         port: median(port_times).expect("at least one run"),
+        in_process: in_process_times(in_process, row, repeats),
         solver: solver.map(|solver| solver_time(solver, row)).transpose()?,
     })
+}
+
+/// The solver's verdicts on a row's books are the port's, where that has one.
+fn agrees(row: &Row, solver: &InProcess) -> Result<(), String> {
+    for input in &row.inputs {
+        let Ending::Verdict(due) = run_port(input).ending else { continue };
+        if solver.can_be_built(&input.clauses)? != due {
+            let (row, solver) = (&row.name, solver.name());
+            return Err(format!("{row}: {solver} in process has another verdict than the port"));
+        }
+    }
+    Ok(())
 }
 
 /// So many runs that a row takes its time.
@@ -188,15 +228,29 @@ fn timed(row: &Row, check: &mut dyn FnMut(&Input) -> u32) -> (Duration, u64) {
     (start.elapsed(), branchings)
 }
 
-fn run_port(input: &Input) -> u32 {
-    let outcome = port::check(&Request {
+fn run_port(input: &Input) -> Outcome {
+    port::check(&Request {
         book: &input.bytes,
         wanted: input.order.wanted,
         unwanted: input.order.unwanted,
         places: Places::equal(PROGRAM_PLACES, PROGRAM_RECORD_PLACES),
         allowance: PROGRAM_ALLOWANCE,
-    });
-    black_box(outcome).branchings
+    })
+}
+
+/// The median times of solvers in this process on all books of a row, in turns.
+fn in_process_times(solvers: &[InProcess], row: &Row, repeats: usize) -> Vec<Duration> {
+    let mut times = vec![Vec::new(); solvers.len()];
+    for _ in 0..repeats {
+        for (solver, times) in solvers.iter().zip(&mut times) {
+            let mut solve = |input: &Input| {
+                let _ = black_box(solver.can_be_built(&input.clauses));
+                0 // A solver counts no branchings.
+            };
+            times.push(timed(row, &mut solve).0);
+        }
+    }
+    times.into_iter().filter_map(median).collect()
 }
 
 /// The median time of the solver's process on all books of a row.
@@ -260,13 +314,24 @@ mod tests {
     }
 
     #[test]
+    fn missing_solvers_are_told_before_the_table() {
+        let in_process = [Err("no picosat in process".to_string())];
+        let heading = heading(&Err("no outside solver".to_string()), &in_process);
+        let due = "(no picosat in process)\n\n(no outside solver)\n\n| book | books | ";
+        assert!(heading.starts_with(due), "{heading}");
+        let last = " | library / port | solver process µs a run |\n|---|---:|";
+        assert!(heading.contains(last), "{heading}");
+    }
+
+    #[test]
     fn a_line_tells_the_mean_of_its_books() {
         let name = "all rules".to_string();
         let two = (0..2).map(|_| input(Order::default(), shapes::all_rules(3))).collect();
         let ms = Duration::from_millis;
         let (library, port) = (Some(ms(8)), ms(4));
-        let times = Times { branchings: 8, library, port, solver: None };
-        let due = "| all rules | 2 | 8 | 4 | 4000.0 | 1000.00 | 2000.0 | 500.00 | 2.00 | - |";
+        let times = Times { branchings: 8, library, port, in_process: vec![ms(2)], solver: None };
+        let due =
+            "| all rules | 2 | 8 | 4 | 4000.0 | 1000.00 | 2000.0 | 500.00 | 2.00 | 1000.0 | - |";
         assert_eq!(line(&Row { name, inputs: two }, &times), due);
     }
 }

@@ -8,6 +8,7 @@ mod choices;
 mod differential;
 mod framed;
 mod hex;
+mod in_process;
 mod kinds;
 #[cfg(any(test, feature = "proved"))]
 mod lent;
@@ -39,7 +40,7 @@ compare tallies [--seed S] [--books N]
 compare framed FILE FOLDER
     the program's cases of a file as the test program `vectors` reads and writes them, in FOLDER
 compare bench [--seed S] [--solver NAME]
-    the same books through the checker, the port and an outside solver, as a table
+    the same books through the checker, the port and outside solvers, as a table
 
 The checker is the program at PATH or, where compare is built with the feature `proved`, the library.
 The outside solver is the first installed of minisat, cadical and picosat, if NAME does not say.
@@ -180,7 +181,7 @@ fn bench(words: &Words) -> Result<(), String> {
     if let (Err(missing), Some(_)) = (&solver, &words.solver) {
         return Err(missing.clone());
     }
-    bench::run(solver, words.seed.unwrap_or(SEED))
+    bench::run(solver, in_process::all(), words.seed.unwrap_or(SEED))
 }
 
 /// The program that was given, else the library.

@@ -10,11 +10,11 @@ use std::{env, fs, process};
 /// The solvers looked for, in this order.
 const SOLVERS: [&str; 3] = ["minisat", "cadical", "picosat"];
 
-const STATUS_CAN: i32 = 10;
-const STATUS_CANNOT: i32 = 20;
+pub const STATUS_CAN: i32 = 10;
+pub const STATUS_CANNOT: i32 = 20;
 
-/// Solvers made so far, so that each has a file of its own.
-static MADE: AtomicUsize = AtomicUsize::new(0);
+/// Files named so far, so that each solver has one of its own.
+static NAMED: AtomicUsize = AtomicUsize::new(0);
 
 /// A solver, and a file of its own to hand books over in.
 pub struct Solver {
@@ -33,9 +33,7 @@ impl Solver {
             let wanted = named.map_or(SOLVERS.join(", "), str::to_string);
             return Err(format!("no outside solver is installed (looked for: {wanted})"));
         };
-        let number = MADE.fetch_add(1, Ordering::Relaxed);
-        let file = env::temp_dir().join(format!("compare-{}-{number}.cnf", process::id()));
-        Ok(Solver { program, file })
+        Ok(Solver { program, file: own_file("cnf") })
     }
 
     pub fn name(&self) -> String {
@@ -72,6 +70,12 @@ impl Drop for Solver {
         // There may be no file yet, and one that stays behind does no harm.
         let _ = fs::remove_file(&self.file);
     }
+}
+
+/// The path of a file that no one else has, with this ending.
+pub fn own_file(ending: &str) -> PathBuf {
+    let number = NAMED.fetch_add(1, Ordering::Relaxed);
+    env::temp_dir().join(format!("compare-{}-{number}.{ending}", process::id()))
 }
 
 /// The program's path: the name itself where it has a slash, else from the PATH.

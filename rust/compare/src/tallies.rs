@@ -1,5 +1,5 @@
 //! Books through the test build of the engine (the package `tallies`), which counts the tallies of
-//! every rule anew after each change. Each outcome must be the port's.
+//! every rule and the rows of the index anew after each change. Each outcome must be the port's.
 
 use crate::allowances;
 use crate::kinds;
@@ -58,7 +58,7 @@ pub struct Tally {
 
 /// Runs the small books with every pair of limits, and this many generated books that are not refused.
 /// A difference in an outcome ends it and is told in words, as is a kind of change or an ending that
-/// was never seen. At a difference in the tallies it panics.
+/// was never seen. At a difference in the tallies or the index it panics.
 pub fn run(seed: u64, books: usize) -> Result<Tally, String> {
     let mut tally = Tally::default();
     for small in &SMALL {
@@ -210,7 +210,7 @@ impl Tally {
         let changes: usize = self.seen.changes.iter().sum();
         format!(
             "{} books of seed {seed} and {} small books, {runs} runs, {changes} changes, {} words of \
-             tallies compared, no difference",
+             tallies and index compared, no difference",
             self.books,
             SMALL.len(),
             self.seen.words
@@ -228,7 +228,10 @@ mod tests {
         assert_eq!(tally.books, 60);
         let summary = tally.summary(5);
         assert!(summary.starts_with("60 books of seed 5 and 22 small books, "), "{summary}");
-        assert!(summary.ends_with(" words of tallies compared, no difference"), "{summary}");
+        assert!(
+            summary.ends_with(" words of tallies and index compared, no difference"),
+            "{summary}"
+        );
         assert_eq!(tally.told().lines().count(), NAMES.len() + 1 + ENDINGS.len());
     }
 

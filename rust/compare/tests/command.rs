@@ -57,7 +57,7 @@ fn the_last_line_on_tallies_has_the_counts() {
     let told = String::from_utf8_lossy(&output.stdout);
     let last = told.lines().last().unwrap_or_default();
     assert!(last.starts_with("20 books of seed 3 and 22 small books, "), "{told}");
-    assert!(last.contains(" words of tallies compared, no difference, in "), "{told}");
+    assert!(last.contains(" words of tallies and index compared, no difference, in "), "{told}");
 }
 
 #[test]

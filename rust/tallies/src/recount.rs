@@ -2,12 +2,13 @@
 
 use port::{Decisions, Rule};
 
-const OPTIONS: usize = 64;
+/// A book has at most so many options.
+pub const OPTIONS: usize = 64;
 
 /// An entry of a rule: the option's index, counted from 0, and whether it is to be fitted.
 #[derive(Clone, Copy, Debug, PartialEq, Eq)]
 pub struct Entry {
-    option: usize,
+    pub option: usize,
     fitted: bool,
 }
 
@@ -21,9 +22,9 @@ pub struct Options {
 /// and how many of its entries are undecided.
 #[derive(Clone, Copy, Debug, Default, PartialEq, Eq)]
 pub struct Tallies {
-    pub names_struck: bool,
-    pub keeping: u64,
-    pub undecided: u64,
+    names_struck: bool,
+    keeping: u64,
+    undecided: u64,
 }
 
 /// The entries of a rule.
@@ -66,9 +67,19 @@ impl Options {
 }
 
 impl Tallies {
-    /// The three in one word.
+    /// The two counts in one word.
     pub fn word(self) -> u64 {
-        u64::from(self.names_struck) + 2 * self.keeping + 256 * self.undecided
+        2 * self.keeping + 256 * self.undecided
+    }
+
+    /// No decision keeps the rule and it names no struck option.
+    pub fn is_in_play(self) -> bool {
+        self.keeping == 0 && !self.names_struck
+    }
+
+    /// Whether the rule is in play, kept by no decision, and naming a struck option.
+    pub fn rows(self) -> [bool; 3] {
+        [self.is_in_play(), self.keeping == 0, self.names_struck]
     }
 }
 
@@ -82,20 +93,30 @@ mod tests {
     use super::*;
 
     /// Options 1 and 64 are decided, 64 is fitted; option 3 is struck.
-    fn word(fitted: u64, left_out: u64) -> u64 {
+    fn tallies(fitted: u64, left_out: u64) -> Tallies {
         let decisions = Decisions { decided: 1 | 1 << 63, fitted: 1 << 63 };
-        Options::at(decisions, 4).tallies(&entries(Rule { fitted, left_out })).word()
+        Options::at(decisions, 4).tallies(&entries(Rule { fitted, left_out }))
     }
 
     #[test]
-    fn each_tally_has_its_part_of_the_word() {
+    fn each_count_has_its_part_of_the_word() {
+        let word = |fitted, left_out| tallies(fitted, left_out).word();
         assert_eq!(word(0, 0), 0);
-        assert_eq!(word(4, 0), 256 + 1);
-        assert_eq!(word(0, 4), 256 + 1);
+        assert_eq!(word(4, 0), 256);
         assert_eq!(word(2, 8), 2 * 256);
         assert_eq!(word(1, 1 << 63), 0);
         assert_eq!(word(1 << 63, 1), 2 * 2);
-        assert_eq!(word(1 << 63 | 6, 1 | 8), 3 * 256 + 2 * 2 + 1);
+        assert_eq!(word(1 << 63 | 6, 1 | 8), 3 * 256 + 2 * 2);
+    }
+
+    #[test]
+    fn a_rule_in_play_is_not_kept_and_names_no_struck_option() {
+        let rows = |fitted, left_out| tallies(fitted, left_out).rows();
+        assert_eq!(rows(0, 0), [true, true, false]);
+        assert_eq!(rows(2, 1 << 63), [true, true, false]);
+        assert_eq!(rows(2, 4), [false, true, true]);
+        assert_eq!(rows(2, 1), [false, false, false]);
+        assert_eq!(rows(1 << 63 | 4, 0), [false, false, true]);
     }
 
     #[test]

@@ -1,5 +1,7 @@
 //! A watched run of the engine.
 
+use crate::blocks::words;
+use crate::change::Seen;
 use crate::engine::answer::Answer;
 use crate::engine::rows::clause::{Assignment, Clause};
 use crate::engine::rows::records::sequent_at;
@@ -7,7 +9,6 @@ use crate::engine::rows::state::Env;
 use crate::engine::rows::table::clause_at;
 use crate::engine::search::run::run as run_engine;
 use crate::tell;
-use crate::watch::Seen;
 use port::{Decisions, Ending, Outcome, Record, Rule, CAN, CANNOT};
 
 /// Places for records.
@@ -32,7 +33,7 @@ pub struct Run {
 pub fn run(options: u32, rules: &[Rule], places: usize, allowance: u32) -> Run {
     let given = rules.len();
     let capacity = given + places;
-    let (mut t, mut q) = (vec![RUBBISH; 2 * capacity], vec![RUBBISH; capacity]);
+    let (mut t, mut q) = (vec![RUBBISH; 2 * capacity], vec![RUBBISH; words(capacity)]);
     let mut rs = [RUBBISH; 3 * RECORDS];
     for (i, rule) in rules.iter().enumerate() {
         (t[2 * i], t[2 * i + 1]) = (rule.fitted, rule.left_out);
@@ -79,8 +80,8 @@ impl From<Assignment> for Decisions {
 #[cfg(test)]
 mod tests {
     use super::*;
-    use crate::engine::rows::tallies::{decide, start};
-    use crate::watch::NAMES;
+    use crate::change::{KINDS, NAMES};
+    use crate::engine::rows::tallies::{decide, restrike, start, strike, unstrike};
     use port::{check, Places, Request};
 
     /// A book of three options that can be built, and one of two that cannot.
@@ -130,19 +131,55 @@ mod tests {
     }
 
     #[test]
-    #[should_panic(expected = "after Decide(4, true): rule 1 (from 0), Rule { fitted: 1, left_out")]
-    fn a_wrong_word_of_the_engine_is_told() {
-        let (t, mut q) = ([3, 0, 1, 2], [0, 0]);
+    fn a_change_within_another_is_told_with_it() {
+        let (t, mut q) = ([3, 0, 1, 2], [RUBBISH; 131]);
         tell::begin(7);
         start(&t, &mut q, 2);
-        q[1] += 2;
+        assert!(strike(&mut q, 2, 2));
+        assert!(!strike(&mut q, 2, 1));
+        unstrike(&mut q, 2, 3, 4);
+        unstrike(&mut q, 2, 4, 4);
+        restrike(&mut q, 2, 7);
+        let (seen, _) = tell::end(&t, &q, 2, Some(7));
+        let due: [usize; KINDS] = [1, 0, 0, 0, 2, 1, 2, 0];
+        assert_eq!((seen.changes, seen.words), (due, 7 * (2 + 67)));
+    }
+
+    /// Two rules, of which one word is wrong before option 3 is decided, which none of them names.
+    fn decide_with(word: usize, wrong: u64) {
+        let (t, mut q) = ([3, 0, 1, 2], [RUBBISH; 131]);
+        tell::begin(7);
+        start(&t, &mut q, 2);
+        q[word] ^= wrong;
         decide(&t, &mut q, 2, 4, true);
+    }
+
+    #[test]
+    #[should_panic(expected = "rule 1 (from 0), Rule { fitted: 1, left_out: 2 }: the word of its")]
+    fn a_wrong_word_of_the_engine_is_told() {
+        decide_with(1, 2);
+    }
+
+    #[test]
+    #[should_panic(
+        expected = "rule 1 (from 0), Rule { fitted: 1, left_out: 2 }: its bit in the row"
+    )]
+    fn a_wrong_bit_of_the_engine_is_told() {
+        decide_with(64 + 4, 2);
+    }
+
+    #[test]
+    #[should_panic(
+        expected = "rule 2 (from 0), which does not exist: its bit in the row `in play`"
+    )]
+    fn a_bit_of_the_engine_beyond_the_last_rule_is_told() {
+        decide_with(64 + 1, 4);
     }
 
     #[test]
     #[should_panic(expected = "Decide(4, true) does not fit: a run starts once")]
     fn a_change_of_the_engine_that_does_not_fit_is_told() {
         tell::begin(7);
-        decide(&[3, 0], &mut [512], 1, 4, true);
+        decide(&[3, 0], &mut [0; 131], 1, 4, true);
     }
 }

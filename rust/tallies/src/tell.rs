@@ -1,27 +1,43 @@
 //! The watcher of the run at hand, which the engine tells. Each function panics at a difference.
 
-pub use crate::watch::Change;
-use crate::watch::{Seen, Watch};
+pub use crate::change::Change;
+use crate::change::Seen;
+use crate::watch::Watch;
 use port::Decisions;
-use std::cell::RefCell;
+use std::cell::{Cell, RefCell};
 
 thread_local! {
     static WATCH: RefCell<Watch> = RefCell::default();
+    /// How many changes are under way, each within the one before.
+    static UNDER_WAY: Cell<usize> = const { Cell::new(0) };
 }
 
 /// A run over these options begins, of which nothing was told yet.
 pub fn begin(options: u64) {
     WATCH.set(Watch::of(options));
+    UNDER_WAY.set(0);
 }
 
-/// A change was made; these are the table, the tallies and the number of rules after it.
+/// A change is begun. What is changed within it is told with it.
+pub fn before() {
+    UNDER_WAY.set(UNDER_WAY.get() + 1);
+}
+
+/// The change was made; these are the table, the tallies and the number of rules after it.
 pub fn after(change: Change, t: &[u64], q: &[u64], rules: usize) {
-    sure(WATCH.with_borrow_mut(|watch| watch.after(change, Some(t), q, rules)));
+    made(change, Some(t), q, rules);
 }
 
-/// A change was made that is not lent the table; these are the tallies and the number of rules after it.
+/// The change was made, and is not lent the table; these are the tallies and the number of rules after it.
 pub fn after_words(change: Change, q: &[u64], rules: usize) {
-    sure(WATCH.with_borrow_mut(|watch| watch.after(change, None, q, rules)));
+    made(change, None, q, rules);
+}
+
+fn made(change: Change, t: Option<&[u64]>, q: &[u64], rules: usize) {
+    UNDER_WAY.set(UNDER_WAY.get() - 1);
+    if UNDER_WAY.get() == 0 {
+        sure(WATCH.with_borrow_mut(|watch| watch.after(change, t, q, rules)));
+    }
 }
 
 /// A point at which the engine goes by the tallies of these decisions, this struck set and so many rules.

@@ -3,7 +3,7 @@
 //! its name that tells it. A source that does not have the form that is known is an error. The build
 //! script uses this file.
 
-use crate::watched::{Watched, WATCHED};
+use crate::watched::Watched;
 
 /// The first line of a function that tells the watcher.
 pub const TELLING: &str = "use crate::tell::*;";
@@ -19,23 +19,19 @@ fn declared(line: &str) -> Option<&str> {
 }
 
 /// The source of a file as Rust, without the modules that it declares. It may use these crates.
-pub fn translate(file: &str, source: &str, crates: &[&str]) -> Result<String, String> {
+pub fn translate(source: &str, crates: &[&str]) -> Result<String, String> {
     let mut text = String::new();
     for (number, line) in source.lines().enumerate() {
         let lines = rust(line, crates).map_err(|what| format!("line {}: {what}", number + 1))?;
         text += &lines;
     }
-    let watched: Vec<&Watched> = WATCHED.iter().filter(|watched| watched.file == file).collect();
-    let changing = watched.iter().filter(|watched| !watched.after.is_empty());
-    let changing: Vec<&str> = changing.map(|watched| watched.name).collect();
-    let writing = writing(&text);
-    if let Some(name) = changing.iter().find(|name| !writing.contains(name)) {
-        return Err(format!("no function `{name}` writes a tally"));
-    }
-    if let Some(name) = writing.iter().find(|name| !changing.contains(name)) {
-        return Err(format!("the function `{name}` writes a tally and is not watched"));
-    }
-    watched.iter().try_fold(text, |text, watched| watch(&text, watched))
+    Ok(text)
+}
+
+/// The text of a file, with those of its functions watched that are listed.
+pub fn watch_all(file: &str, text: String, watched: &[Watched]) -> Result<String, String> {
+    let mut here = watched.iter().filter(|watched| watched.file == file);
+    here.try_fold(text, |text, watched| watch(&text, watched))
 }
 
 /// One line of Rattle as lines of Rust; none for what is only there for the proofs.
@@ -67,22 +63,6 @@ fn rust(line: &str, crates: &[&str]) -> Result<String, String> {
     })
 }
 
-/// The names of the functions that write to `q`.
-fn writing(text: &str) -> Vec<&str> {
-    let (mut writing, mut function) = (Vec::new(), "");
-    for line in text.lines() {
-        let item = line.strip_prefix("pub ").unwrap_or(line);
-        if let Some((name, _)) = item.strip_prefix("fn ").and_then(|rest| rest.split_once('(')) {
-            function = name;
-        }
-        let code = line.trim();
-        if code.starts_with("q[") && code.contains("= ") {
-            writing.push(function);
-        }
-    }
-    writing
-}
-
 /// The text with this function as `NAME_itself`, and with one around it that tells the watcher.
 fn watch(text: &str, watched: &Watched) -> Result<String, String> {
     let Watched { name, takes, before, after, .. } = watched;
@@ -110,6 +90,7 @@ fn watch(text: &str, watched: &Watched) -> Result<String, String> {
 #[cfg(test)]
 mod tests {
     use super::*;
+    use crate::watched::WATCHED;
 
     const CRATES: [&str; 2] = ["rows", "words"];
 
@@ -123,7 +104,6 @@ struct Noted {
 }
 
 fn strike(
-    t: &[u64],
     q: &mut [u64],
     m: usize,
     w: u64,
@@ -131,15 +111,33 @@ fn strike(
     requires { ⌜ w < 64 ⌝ }
     ensures { λ r. ⌜ r ≡ w ⌝ }
 {
-    q[m] = words::first(t[m], w);
+    tallies::strike(q, m, w);
     Noted { pos: 0 }
 }
 
-pub fn sweep(t: &[u64], q: &mut [u64], rs: &mut [u64], a: Assignment, s: Counts)
+pub fn sweep(t: &[u64], q: &mut [u64], a: Assignment)
 {
-    strike(t, q, 0, 1);
+    strike(q, 0, 1);
 }
 ";
+
+    const LISTED: [Watched; 3] = [
+        Watched {
+            file: "sweep/lib",
+            name: "strike",
+            takes: &["q: &mut [u64]", "w: u64"],
+            before: "before();",
+            after: "after_words(Change::Strike(w, done), q, m);",
+        },
+        Watched {
+            file: "sweep/lib",
+            name: "sweep",
+            takes: &["a: Assignment"],
+            before: "point(a.into());",
+            after: "",
+        },
+        Watched { file: "enter/lib", name: "enter", takes: &[], before: "", after: "" },
+    ];
 
     const RUST: &str = "\
 // Rounds: λ.
@@ -150,36 +148,37 @@ struct Noted {
     pub pos: u64,
 }
 
-fn strike_itself(t: &[u64], q: &mut [u64], m: usize, w: u64) -> Noted
+fn strike_itself(q: &mut [u64], m: usize, w: u64) -> Noted
 {
-    q[m] = words::first(t[m], w);
+    tallies::strike(q, m, w);
     Noted { pos: 0 }
 }
 
-pub fn sweep_itself(t: &[u64], q: &mut [u64], rs: &mut [u64], a: Assignment, s: Counts)
+pub fn sweep_itself(t: &[u64], q: &mut [u64], a: Assignment)
 {
-    strike(t, q, 0, 1);
+    strike(q, 0, 1);
 }
 
-fn strike(t: &[u64], q: &mut [u64], m: usize, w: u64) -> Noted
+fn strike(q: &mut [u64], m: usize, w: u64) -> Noted
 {
     use crate::tell::*;
-    let done = strike_itself(t, q, m, w);
-    after(Change::Strike(w), t, q, m);
+    before();
+    let done = strike_itself(q, m, w);
+    after_words(Change::Strike(w, done), q, m);
     done
 }
 
-pub fn sweep(t: &[u64], q: &mut [u64], rs: &mut [u64], a: Assignment, s: Counts)
+pub fn sweep(t: &[u64], q: &mut [u64], a: Assignment)
 {
     use crate::tell::*;
-    point(a.into(), rows::records::last(rs, s.records).redundant, s.clauses);
-    let done = sweep_itself(t, q, rs, a, s);
+    point(a.into());
+    let done = sweep_itself(t, q, a);
     done
 }
 ";
 
     fn sweep(source: &str) -> Result<String, String> {
-        translate("sweep/lib", source, &CRATES)
+        watch_all("sweep/lib", translate(source, &CRATES)?, &LISTED)
     }
 
     /// What is said of the source where one part of it is another.
@@ -197,35 +196,26 @@ pub fn sweep(t: &[u64], q: &mut [u64], rs: &mut [u64], a: Assignment, s: Counts)
     fn modules_are_listed_and_not_in_the_text() {
         let source = "mod branch;\npub mod run;\n// mod note;\n";
         assert_eq!(modules(source), ["branch", "run"]);
-        assert_eq!(translate("search/lib", source, &CRATES).unwrap(), "// mod note;\n");
+        assert_eq!(translate(source, &CRATES).unwrap(), "// mod note;\n");
     }
 
     #[test]
-    fn a_change_that_is_not_there_is_named() {
-        assert_eq!(refused("fn strike(", "fn struck("), "no function `strike` writes a tally");
-        assert_eq!(refused("q[m] = ", "let x = "), "no function `strike` writes a tally");
+    fn a_function_that_is_not_there_is_named() {
+        assert_eq!(refused("fn strike(", "fn struck("), "there is no function `strike`");
         assert_eq!(refused("    w: u64,\n", ""), "the function `strike` does not take `w: u64`");
-        assert_eq!(
-            translate("enter/lib", "", &CRATES).unwrap_err(),
-            "there is no function `enter`"
-        );
-    }
-
-    #[test]
-    fn a_change_that_is_not_watched_is_named() {
-        let other = "pub fn other(q: &mut [u64])\n{\n    q[0] += 1;\n}\n";
-        let due = "the function `other` writes a tally and is not watched";
-        assert_eq!(sweep(&format!("{SWEEP}\n{other}")).unwrap_err(), due);
-        assert_eq!(translate("rows/table", other, &CRATES).unwrap_err(), due);
+        for watched in &WATCHED {
+            let told = watch_all(watched.file, String::new(), &WATCHED).unwrap_err();
+            assert!(told.starts_with("there is no function `"), "{told}");
+        }
     }
 
     #[test]
     fn a_line_of_another_form_is_named() {
         for (part, other, line) in [
             ("{ones};", "ones", "line 2: `ghost use lib.Count.ones`"),
-            ("w < 64 ⌝ }", "w < 64", "line 15: `requires { ⌜ w < 64`"),
-            ("    Noted {", "    ghost let {", "line 19: `ghost let { pos: 0 }`"),
-            ("pos: 0", "pos: ν", "line 19: `Noted { pos: ν }`"),
+            ("w < 64 ⌝ }", "w < 64", "line 14: `requires { ⌜ w < 64`"),
+            ("    Noted {", "    ghost let {", "line 18: `ghost let { pos: 0 }`"),
+            ("pos: 0", "pos: ν", "line 18: `Noted { pos: ν }`"),
         ] {
             assert_eq!(refused(part, other), format!("{line} is not of the form that is known"));
         }

@@ -10,6 +10,9 @@ pub struct Watched {
     pub after: &'static str,
 }
 
+/// The file of the functions that change tallies.
+pub const TALLIES: &str = "rows/tallies";
+
 const T: &str = "t: &[u64]";
 const Q: &str = "q: &mut [u64]";
 const M: &str = "m: usize";
@@ -25,28 +28,26 @@ const T_MUT: &str = "t: &mut [u64]";
 const AT_THE_LIST: &str =
     "point(a.into(), rows::records::last(rs, s.records).redundant, s.clauses);";
 
-/// The functions that change tallies, of which no other may write one; and, with what they go by, those
-/// that begin a branching point, sweep, and bring the two sides together.
+/// The functions that change tallies, through which every change goes; and, with what they go by, those
+/// that begin a branching point, sweep, and bring the two sides together. Where `unstrike` calls
+/// `restrike` only `unstrike` is told of. What the function answers is `done`.
 pub const WATCHED: [Watched; 11] = [
     changing("start", &[T, Q, M], "after(Change::Start, t, q, m);"),
     changing("decide", &[T, Q, M, W, B], "after(Change::Decide(w, b), t, q, m);"),
     changing("turn", &[T, Q, M, W, B], "after(Change::Turn(w, b), t, q, m);"),
     changing("withdraw", &[T, Q, M, W, B], "after(Change::Withdraw(w, b), t, q, m);"),
-    changing("strike_all", &[Q, M], "after_words(Change::StrikeAll, q, m);"),
+    changing("strike", &[Q, M, W], "after_words(Change::Strike(w, done), q, m);"),
+    changing("restrike", &[Q, M, K], "after_words(Change::Restrike(k), q, m);"),
     changing(
         "unstrike",
-        &[T, Q, M, K, "other: u64"],
-        "after(Change::Unstrike(k, other), t, q, m);",
+        &[Q, M, K, "other: u64"],
+        "after_words(Change::Unstrike(k, other), q, m);",
     ),
     changing(
         "add",
         &[T_MUT, Q, M, A, K, "c: Clause"],
         "after(Change::Add(a.into(), k, c.into()), t, q, m + 1);",
     ),
-    Watched {
-        file: "sweep/lib",
-        ..changing("strike", &[T, Q, M, W], "after(Change::Strike(w), t, q, m);")
-    },
     going_by("enter/lib", "enter", &[T, Q, A, K, S], "point(a.into(), k, s.clauses);"),
     going_by("sweep/lib", "sweep", &[T, Q, RS, A, S], AT_THE_LIST),
     going_by("merge/lib", "test", &[T_MUT, Q, RS, A, S], AT_THE_LIST),
@@ -57,7 +58,7 @@ const fn changing(
     takes: &'static [&'static str],
     after: &'static str,
 ) -> Watched {
-    Watched { file: "rows/tallies", name, takes, before: "", after }
+    Watched { file: TALLIES, name, takes, before: "before();", after }
 }
 
 const fn going_by(

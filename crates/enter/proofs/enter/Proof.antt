@@ -53,7 +53,7 @@ sweep-requires c κs =
       start .pre .0,
       tallied-at (g .rs .now) (g .s) (assignmentOf (g .a)) (stateOf (g .t .now) (g .rs .now) (g .s)) refl refl
           (ap (λ (d : DSequent). d .redundant) (sym (c .before .before .before .before .before .before .before .before .last .ensures)))
-          (c .before .before .before .before .unstrike .ensures _ (start .pre .1 .tallied)),
+          (c .before .before .before .before .unstrike .ensures _ _ (start .pre .1 .tallied)),
     )
 
 swept-requires : tie.Need-swept-requires
@@ -133,7 +133,7 @@ returns-2 c =
       enter-back _ _ _ _ _ (clause-found m) (ap isZero (sym (live-word m) ∙ c .before .before .before .before .if1 .taken)),
       tallied-at (g .rs .now) (g .s) (assignmentOf (g .a)) (stateOf (g .t .now) (g .rs .now) (g .s)) refl refl
           (ap (λ (d : DSequent). d .redundant) (sym (m .before .before .before .before .before .last .ensures)))
-          (c .before .before .unstrike2 .ensures _ (start .pre .1 .tallied)),
+          (c .before .before .unstrike2 .ensures _ _ (start .pre .1 .tallied)),
     )
 
 unstrike-requires-3 : tie.Need-unstrike-requires-3
@@ -161,7 +161,7 @@ returns-3 c =
       ap back is ∙ enter-falsified _ _ _ _ _ (clause-found m) (some-live m (c .before .before .before .before .before .before .before .before .if1 .left)),
       tallied-at (put .last .0) (put .result) (assignmentOf (g .a)) _ is refl
           (append-redundant (assignmentOf (g .a)) _ _ (stateOf (g .t .now) (g .rs .now) (g .s)) ∙ sym (m .before .undecided .ensures))
-          (c .before .before .before .before .before .before .unstrike3 .ensures _ (start .pre .1 .tallied)),
+          (c .before .before .before .before .before .before .unstrike3 .ensures _ _ (start .pre .1 .tallied)),
     )
 
 pub enter-spec : {M : Type 1} → statement M

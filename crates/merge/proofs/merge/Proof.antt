@@ -66,6 +66,8 @@ withdraw-requires c κs =
     record {
       table = table j;
       variable = branched-variable (x .e) (x .a) (x .v) (m .vars) (m .branched);
+      vars = x .e .vars;
+      proper = joined-shape m (j .join .last .0) (j .join .result) (j .join .ensures (x .t .now)) .clauses;
       decisions = assignmentOf (x .a);
       free = branched-free (envOf (x .e)) (assignmentOf (x .a)) (x .v) (m .branched) (m .trues);
       struck = redundant (stateOf (x .t .now) (x .rs .now) (x .s));
@@ -74,14 +76,14 @@ withdraw-requires c κs =
 
 unstrike-requires : tie.Need-unstrike-requires
 unstrike-requires c κs =
-    let w = c .before .before .before .before in
+    let w = c .before .before .before in
     let j = w .before .before .before .before .before .before .before in
-    (table j, omega (arith, tallied j .room, w .withdraw .kept .1 .0))
+    omega (arith, tallied j .room, w .withdraw .kept .1 .0)
 
 test-requires : tie.Need-test-requires
 test-requires c κs =
     let u = c .before .before .before .before .before in
-    let w = u .before .before .before .before .before in
+    let w = u .before .before .before .before in
     let d = w .before .before .before in
     let j = d .before .before .before .before in
     let start = j .before .before .before .before .before .before .before in
@@ -104,12 +106,12 @@ test-requires c κs =
             others = joined-others m (j .join .last .0) (j .join .result) is;
             tallied =
                 subst
-                (Tallied (x .t .now) (u .unstrike .last .1 .0) n a)
+                (Tallied (x .t .now) (u .unstrike .last .0) n a)
                 joined
-                (u .unstrike .ensures a (subst⁻¹ (Tallied (x .t .now) (w .withdraw .last .1 .0) n a) second withdrawn));
+                (u .unstrike .ensures _ a (subst⁻¹ (Tallied (x .t .now) (w .withdraw .last .1 .0) n a) second withdrawn));
           };
       capacity = m .capacity;
-      places = omega (arith, start .pre .1 .places, u .unstrike .kept .1 .0, w .withdraw .kept .1 .0);
+      places = omega (arith, start .pre .1 .places, u .unstrike .kept .0, w .withdraw .kept .1 .0);
       clauses = allowed j;
       shape = joined-shape m (j .join .last .0) (j .join .result) is;
     }
@@ -127,7 +129,7 @@ returns : tie.Need-returns
 returns c =
     let tested = c .before .before .before .before .before .before in
     let j =
-    tested .before .before .before .before .before .before .before .before .before .before .before .before .before .before .before .before .before .before in
+    tested .before .before .before .before .before .before .before .before .before .before .before .before .before .before .before .before .before in
     let x = j .before .before .before .before .before .before .before .args in
     (tested .test .ensures .0 (x .b) ∙ merged _ _ _ _ _ _ _ (j .join .ensures (x .t .now)), tested .test .ensures .1)
 

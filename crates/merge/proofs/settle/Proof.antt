@@ -22,8 +22,11 @@ returns c t =
     let x = c .before .before .before .before .args in
     (sym (when-true (isZero (vars (clauseOf (x .c)))) _ _ (ap isZero (sym (c .before .vars .ensures) ∙ c .if1 .taken))), λ proper tallied. tallied)
 
-strike-all-requires : tie.Need-strike-all-requires
-strike-all-requires c κs = search needs
+undecided-requires : tie.Need-undecided-requires
+undecided-requires c κs = search needs
+
+restrike-requires : tie.Need-restrike-requires
+restrike-requires c κs = search needs
 
 append-falsified-requires : tie.Need-append-falsified-requires
 append-falsified-requires c κs = search needs
@@ -35,11 +38,10 @@ same-length-2 : tie.Need-same-length-2
 same-length-2 c = search needs
 
 returns-2 : tie.Need-returns-2
-unfolding undecided
 returns-2 c t =
     let made = c .before .before .append-falsified in
     let struck = c .before .before .before .before .before .before in
-    let test = struck .before .before in
+    let test = struck .before .before .before in
     let named = test .before .vars in
     let start = test .before .before .before .before in
     let x = start .args in
@@ -48,9 +50,10 @@ returns-2 c t =
       ap up is
           ∙ sym (when-false (isZero (vars (clauseOf (x .c)))) _ _ (ap isZero (sym (named .ensures)) ∙ nonzero (named .result) (test .if1 .left))),
       λ proper tallied.
-          tallied-at (made .last .0) (made .result) (assignmentOf (x .a)) _ is refl (append-redundant (assignmentOf (x .a)) _ _ s)
-          (struck .strike-all .ensures t (x .e .vars) (assignmentOf (x .a)) (redundant s) (start .pre .0 .vars) proper tallied),
+          tallied-at (made .last .0) (made .result) (assignmentOf (x .a)) _ is refl
+          (append-redundant (assignmentOf (x .a)) _ _ s ∙ sym (struck .before .undecided .ensures))
+          (struck .restrike .ensures t (assignmentOf (x .a)) (redundant s) tallied),
     )
 
 pub settle-spec : {M : Type 1} → statement M
-settle-spec = tie.close (tie.spec vars-requires returns strike-all-requires append-falsified-requires same-length same-length-2 returns-2)
+settle-spec = tie.close (tie.spec vars-requires returns undecided-requires restrike-requires append-falsified-requires same-length same-length-2 returns-2)

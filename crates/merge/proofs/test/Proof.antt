@@ -2,9 +2,7 @@
 -- (`passes-negative`, `passes-positive`, `resolves`). Assumes nothing.
 use mathlib.Core.Path.{_≡_, sym, ap, _∙_, subst⁻¹}
 use mathlib.Core.Bool.{Bool, true, false}
-use Prim.Native.Nat.{ℕ}
 use borrow.Author.Needs.{needs}
-use lib.Bits.{bitOr}
 use Rattle.steps.specs.Lists.{find}
 use Rattle.steps.specs.Clause.{Clause, falsified, DSequent}
 use Rattle.steps.specs.State.{Side.up, redundant}
@@ -14,16 +12,21 @@ use Rattle.steps.specs.Merge.{cover, learn}
 use Rattle.steps.specs.Shape.{Proper}
 use Rattle.rows.specs.Values.{assignmentOf, envOf, foundOf}
 use Rattle.rows.specs.Rows.{stateOf}
+use Rattle.rows.specs.Tally.{Variable}
 use Rattle.sweep.specs.Sweep.{Striking}
-use Rattle.merge.proofs.Joined.{struck-apart, all-struck, passes-negative, passes-positive, resolves, resolvent-broken, resolvent-new}
+use Rattle.merge.proofs.Joined.{branched-variable, struck-apart, passes-negative, passes-positive, resolves, resolvent-broken, resolvent-new}
 use Rattle.merge.proofs.test.Statement.{statement}
 use Rattle.merge.proofs.test.Tie as tie
 
 last-requires : tie.Need-last-requires
 last-requires c κs = search needs
 
+-- v is one of the 64
+variable : (c : tie.Start) → Variable (c .args .v)
+variable c = let pre = c .pre .others-struck in branched-variable (c .args .e) (c .args .a) (c .args .v) (pre .vars) (pre .branched)
+
 in-play-requires : tie.Need-in-play-requires
-in-play-requires c κs = search needs
+in-play-requires c κs = (search needs, search needs, variable (c .before .before .before .before .before .before .before))
 
 -- the first look-up is of the negative literal
 negative : (c : tie.After-in-play) → let x = c .before .before .before .before .before .before .before .before .args in
@@ -40,17 +43,15 @@ enum-told c = search needs
 -- v can be struck, by either literal
 striking : (c : tie.After-last) (b : Bool)
     → let x = c .before .before .before .before .before .args in
-    Striking (x .t .now) (x .q .now) (x .rs .now) (x .e) (record { var = x .v; sign = b }) (assignmentOf (x .a)) (c .last .result) (x .s)
+    Striking (x .t .now) (x .q .now) (x .rs .now) (record { var = x .v; sign = b }) (assignmentOf (x .a)) (c .last .result) (x .s)
 striking c b =
     let start = c .before .before .before .before .before in
     let x = start .args in
     let pre = start .pre .others-struck in
     record {
-      vars = pre .vars;
+      variable = variable start;
       table = pre .table;
-      proper = start .pre .shape .clauses;
       next = pre .next;
-      all = ap (λ (k : ℕ). bitOr k (x .v)) (pre .others) ∙ all-struck (x .v) _ (pre .branched);
       last = c .last .ensures;
       tallied = pre .tallied;
     }
@@ -85,7 +86,7 @@ returns c =
     )
 
 in-play-requires-2 : tie.Need-in-play-requires-2
-in-play-requires-2 c κs = search needs
+in-play-requires-2 c κs = (search needs, search needs, variable (c .before .before .before .before .before .before .before .before .before .before .before .before .before))
 
 -- the second is of the positive one
 positive : (c : tie.After-in-play2)

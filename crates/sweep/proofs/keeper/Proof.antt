@@ -23,13 +23,10 @@ has-literal : (c : tie.After-meets)
 has-literal c = c .meets .ensures ∙ ap (λ (x : ℕ). meets x (c .before .before .args .l .var)) (c .before .literals .ensures)
 
 returns : tie.Need-returns
-returns c k held = sym (without-literal _ _ _ _ (sym (has-literal (c .before)) ∙ not-true _ (c .if1 .taken)))
-
-is-struck-requires : tie.Need-is-struck-requires
-is-struck-requires c κs = search needs
+returns c k struck = sym (without-literal _ _ _ _ (sym (has-literal (c .before)) ∙ not-true _ (c .if1 .taken)))
 
 returns-2 : tie.Need-returns-2
-returns-2 c k held = sym (naming-redundant _ _ _ _ (sym (c .before .is-struck .ensures _ k _ held) ∙ c .if2 .taken))
+returns-2 c k struck = sym (naming-redundant _ _ _ _ (sym struck ∙ c .if2 .taken))
 
 keepers-requires : tie.Need-keepers-requires
 keepers-requires c κs = search needs
@@ -38,12 +35,12 @@ lowest-of-requires : tie.Need-lowest-of-requires
 lowest-of-requires c κs = search needs
 
 returns-3 : tie.Need-returns-3
-returns-3 c k held =
+returns-3 c k struck =
     let other = c .before .before in
-    let literal = other .before .before in
+    let literal = other .before in
     c .lowest-of .ensures
     ∙ ap lowest (c .before .keepers .ensures)
-    ∙ sym (adds-keeper _ _ _ _ (sym (has-literal (literal .before)) ∙ not-false _ (literal .if1 .left)) (sym (other .before .is-struck .ensures _ k _ held) ∙ other .if2 .left))
+    ∙ sym (adds-keeper _ _ _ _ (sym (has-literal (literal .before)) ∙ not-false _ (literal .if1 .left)) (sym struck ∙ other .if2 .left))
 
 pub keeper-spec : {M : Type 1} → statement M
 keeper-spec =
@@ -52,7 +49,6 @@ keeper-spec =
     literals-requires
     meets-requires
     returns
-    is-struck-requires
     returns-2
     keepers-requires
     lowest-of-requires

@@ -21,7 +21,7 @@ use Rattle.rows.specs.Tally.{TalliedAt}
 use Rattle.rows.proofs.Walks.{tallied-at}
 use Rattle.sweep.specs.declared.Chosen.{Chosen}
 use Rattle.sweep.specs.Sweep.{notesOf, literalOf, choiceOf, Ready}
-use Rattle.sweep.proofs.Points.{list-fits, next-fits, still-ready, live-is, last-live, live-variable, tallied-last}
+use Rattle.sweep.proofs.Points.{list-fits, next-fits, still-ready, live-is, live-variable, tallied-last}
 use Rattle.sweep.proofs.Strikes.{found, found-live, found-nonzero, shape-found, live-fewer, none-live, reasons, strike-is, notes-after, sweep-ends, sweep-turn, sweep-last}
 use Rattle.sweep.proofs.sweep.Statement.{statement}
 use Rattle.sweep.proofs.sweep.Tie as tie
@@ -143,11 +143,9 @@ strike-by-requires c κs =
     let l = f .before .before .before .before .before .before .before in
     let ready = l .loop .inv .0 in
     record {
-      vars = ready .vars;
+      variable = live-variable ready (found-live _ _ _ _ _ (struck f));
       table = ready .table;
-      proper = ready .shape .clauses;
       next = next-fits ready (found-nonzero _ _ _ _ _ (struck f));
-      all = last-live ready (sym (is-live (f .before .before .before)) ∙ c .before .before .if2 .taken);
       last = f .before .before .before .before .before .last2 .ensures;
       tallied = l .loop .inv .5;
     }
@@ -176,7 +174,10 @@ returns-3 c =
     )
 
 gather-requires : tie.Need-gather-requires Inv-loop μ-loop
-gather-requires c κs = let inv = c .before .before .before .before .before .before .before .before .before .before .before .loop .inv in (inv .0 .table, inv .5 .room)
+gather-requires c κs =
+    let f = c .before .before .before .before in
+    let inv = f .before .before .before .before .before .before .before .loop .inv in
+    (inv .0 .table, inv .5 .room, live-variable (inv .0) (found-live _ _ _ _ _ (struck f)))
 
 strike-requires : tie.Need-strike-requires Inv-loop μ-loop
 strike-requires c κs =
@@ -217,7 +218,7 @@ then c =
     let g = l .before .before .before .before .before .before .before .before .before .before .before .args in
     let s = stateOf (g .t .now) (l .loop .rs) (l .loop .now) in
     let w = f .found .given .0 .0 in
-    let walk = c .before .before .before .before .before .before .strike .ensures (assignmentOf (g .a)) _ (l .loop .inv .5) in (
+    let walk = c .before .before .before .before .before .before .strike .ensures (assignmentOf (g .a)) _ (l .loop .inv .5) (l .loop .inv .3) in (
       walk .1
           ∙ sym (notes-after (assignmentOf (g .a)) s (w .var) (reasons (assignmentOf (g .a)) s (literalOf w)))
           ∙ ap (λ (x : State). notes (assignmentOf (g .a)) (redundant x) (x .table)) (sym (strikes c)),

@@ -1,68 +1,54 @@
--- `rows::tallies::start` meets its contract: a walk whose turns put the word of the clause's tallies, worked out whole. Assumes nothing.
-use Prim.Native.Nat.{_-_, _≤_, _<_}
+-- `rows::tallies::start` meets its contract. The loop's invariant: the table is tallied for the first i clauses, at no decisions and an empty struck set. A turn adds one
+-- clause (`put`). The measure is how many clauses are left. Assumes nothing.
+use mathlib.Core.Path.{_≡_, refl, _∙_, subst}
+use Prim.Native.Nat.{ℕ, _-_, _≤_}
 use native.Mathlib.Omega.{arith}
-use borrow.Author.Needs.{needs}
 use lib.ListN.{length}
-use Rattle.rows.proofs.Walks.{Walked, begins, turned-at, Started, Each}
+use Rattle.words.proofs.Truth.{clash}
+use Rattle.steps.specs.Run.{noDecisions}
+use Rattle.rows.specs.Tally.{Tallied}
 use Rattle.rows.proofs.tallies.start.Statement.{statement}
 use Rattle.rows.proofs.tallies.start.Tie as tie
 
 abbrev Inv-loop : tie.InvT-loop
-Inv-loop t q₀ m none i₀ q i = (i ≤ m) × Walked (Each Started t) q₀ q i
+Inv-loop t q₀ m none i₀ q i = (i ≤ m) × (length q ≡ length q₀) × Tallied t q i noDecisions 0
 
 abbrev μ-loop : tie.MeasureT-loop
 μ-loop t q₀ m none i₀ q i = m - i
 
 loop-holds : tie.Need-loop-holds Inv-loop μ-loop
-loop-holds c = (omega arith, begins _)
+loop-holds c = (omega arith, refl, record { room = omega arith; block = λ j below. clash (omega arith) })
 
 clause-at-requires : tie.Need-clause-at-requires Inv-loop μ-loop
-clause-at-requires c κs = omega (arith, c .loop-test .taken, c .before .before .before .before .pre .0)
+clause-at-requires c κs = omega (arith, c .before .loop-test .taken, c .before .before .before .before .before .pre .0)
 
-tally-of-requires : tie.Need-tally-of-requires Inv-loop μ-loop
-tally-of-requires c κs = search needs
-
-mul-q : tie.Need-mul-q Inv-loop μ-loop
-mul-q c = omega (arith, c .before .before .loop-test .taken, c .before .before .before .before .before .before .pre .1, c .before .before .before .before .before .before .good)
-
--- there is a word for clause i
-room : (c : tie.In-loop Inv-loop μ-loop) → c .before .loop .i < length (c .before .loop .q)
-room c = omega (arith, c .loop-test .taken, c .before .loop .inv .1 .same, c .before .before .before .before .pre .1)
-
-slice-write-q : tie.Need-slice-write-q Inv-loop μ-loop
-slice-write-q c = room (c .before .before)
+put-requires : tie.Need-put-requires Inv-loop μ-loop
+put-requires c κs = omega (arith, c .before .before .loop-test .taken, c .before .before .before .loop .inv .1, c .before .before .before .before .before .before .pre .1)
 
 add-i : tie.Need-add-i Inv-loop μ-loop
-add-i c = omega (arith, mul-q c)
+add-i c = omega arith
 
 loop-less : tie.Need-loop-less Inv-loop μ-loop
-loop-less c = omega (arith, c .before .before .loop-test .taken)
+loop-less c = omega (arith, c .before .before .before .before .before .loop-test .taken)
 
 loop-again : tie.Need-loop-again Inv-loop μ-loop
 loop-again c =
-    let walk = c .before .before .before in (
-      omega (arith, c .before .before .loop-test .taken),
-      turned-at
-          Started
-          (walk .before .before .before .args .t .now)
-          _
-          _
-          (walk .loop .inv .1)
-          (room (c .before .before))
-          (c .before .clause-at .ensures)
-          (c .tally-of .ensures),
+    let put = c .before .before in
+    let turn = put .before .before .before in
+    let at = turn .before .loop in (
+      omega (arith, turn .loop-test .taken),
+      put .put .kept .0 ∙ at .inv .1,
+      put .put .ensures _ (put .before .clause-at .ensures) (at .inv .2),
     )
 
 same-length : tie.Need-same-length Inv-loop μ-loop
-same-length c = c .before .loop .inv .1 .same
+same-length c = c .before .loop .inv .1
 
 returns : tie.Need-returns Inv-loop μ-loop
 returns c =
-    let walk = c .before .loop .inv .1 in
-    record {
-      room = omega (arith, walk .same, c .before .before .before .before .pre .1);
-      held = λ j below. walk .put j (omega (arith, c .loop-test .left));
-    }
+    let x = c .before .before .before .before .args in
+    let at = c .before .loop in
+    subst (λ (n : ℕ). Tallied (x .t .now) (at .q) n noDecisions 0) (omega (arith, c .loop-test .left)) (at .inv .2)
 
 pub start-spec : {M : Type 1} → statement M
 start-spec =
@@ -72,9 +58,7 @@ start-spec =
     μ-loop
     loop-holds
     clause-at-requires
-    tally-of-requires
-    mul-q
-    slice-write-q
+    put-requires
     add-i
     loop-less
     loop-again

@@ -1,120 +1,48 @@
--- `rows::tallies::turn` meets its contract: a walk (`Walks`) whose turns put the word with the decision withdrawn and the other one made. Assumes nothing.
-use Prim.Native.Nat.{_-_, _≤_, _<_}
-use native.Mathlib.Omega.{arith}
+-- `rows::tallies::turn` meets its contract: a decision that is withdrawn for the other one changes the counts as `turning` says (`Shifts`), and the walk over the
+-- blocks does the rest. Assumes nothing.
+use mathlib.Core.Path.{_≡_}
+use mathlib.Core.Bool.{not}
+use Prim.Native.Nat.{ℕ, _^_}
 use borrow.Author.Needs.{needs}
-use lib.ListN.{length}
-use Rattle.rows.proofs.Walks.{Walked, begins, turned-at, Turned, Each, number-is, turns, decided-held, withdrawn-held}
+use Rattle.steps.specs.Clause.{Assignment, decide}
+use Rattle.steps.specs.Demands.{Free}
+use Rattle.rows.proofs.Shifts.{Steps, turning, leads-by, shiftable}
+use Rattle.rows.proofs.Walks.{number-is, variable-below}
 use Rattle.rows.proofs.tallies.turn.Statement.{statement}
 use Rattle.rows.proofs.tallies.turn.Tie as tie
 
-abbrev Inv-loop : tie.InvT-loop
-Inv-loop t q₀ m w b v i₀ q i = (i ≤ m) × Walked (Each (Turned v b) t) q₀ q i
-
-abbrev μ-loop : tie.MeasureT-loop
-μ-loop t q₀ m w b v i₀ q i = m - i
-
-lowest-var-requires : tie.Need-lowest-var-requires Inv-loop μ-loop
+lowest-var-requires : tie.Need-lowest-var-requires
 lowest-var-requires c κs = search needs
 
-loop-holds : tie.Need-loop-holds Inv-loop μ-loop
-loop-holds c = (omega arith, begins _)
+turning-requires : tie.Need-turning-requires
+turning-requires c κs = search needs
 
--- there is a word for clause i
-room : (c : tie.In-loop Inv-loop μ-loop) → c .before .loop .i < length (c .before .loop .q)
-room c = omega (arith, c .loop-test .taken, c .before .loop .inv .1 .same, c .before .before .before .before .before .pre .tallied .room)
+-- how the turn changes the counts, of a decision on a variable that was undecided
+steps : (c : tie.After-turning) (v : ℕ) (a : Assignment)
+    → let g = c .before .before .before .before .before .args in
+    g .w ≡ 2 ^ v → Free v a → Steps (g .t .now) (g .m) (c .before .lowest-var .result) (c .turning .result) (decide a (g .w) (g .b)) (decide a (g .w) (not (g .b)))
+steps c v a is free =
+    let start = c .before .before .before .before .before in
+    turning (start .args .t .now) (start .args .m) (start .pre .proper) is (number-is (c .before .lowest-var .ensures) (start .pre .variable) is) free (start .args .b) (c .turning .ensures)
 
-clause-at-requires : tie.Need-clause-at-requires Inv-loop μ-loop
-clause-at-requires c κs = omega (arith, c .loop-test .taken, c .before .before .before .before .before .pre .table)
-
-mul-withdraw : tie.Need-mul-withdraw Inv-loop μ-loop
-mul-withdraw c = omega (arith, c .before .loop-test .taken, c .before .before .before .before .before .before .pre .tallied .room, c .before .before .before .before .before .before .good)
-
-slice-read-withdraw : tie.Need-slice-read-withdraw Inv-loop μ-loop
-slice-read-withdraw c = room (c .before .before)
-
-withdraw-requires : tie.Need-withdraw-requires Inv-loop μ-loop
-withdraw-requires c κs =
-    let walk = c .before .before .before in
-    let start = walk .before .before .before .before in
-    decided-held
-    (walk .before .lowest-var .ensures)
-    (walk .loop .inv .1)
-    (c .before .before .loop-test .taken)
-    (start .args .b)
-    (start .pre)
-    _
-    (c .before .clause-at .ensures)
-    (omega (arith, c .before .clause-at .ok))
-    (omega (arith, c .before .clause-at .ok))
-
-decide-requires : tie.Need-decide-requires Inv-loop μ-loop
-decide-requires c κs =
-    let walk = c .before .before .before .before in
-    let start = walk .before .before .before .before in
-    withdrawn-held
-    (walk .before .lowest-var .ensures)
-    (walk .loop .inv .1)
-    (c .before .before .before .loop-test .taken)
-    (start .args .b)
-    (start .pre)
-    _
-    (c .before .before .clause-at .ensures)
-    _
-    (c .withdraw .ensures)
-
-mul-q : tie.Need-mul-q Inv-loop μ-loop
-mul-q c = omega (arith, mul-withdraw (c .before .before .before))
-
-slice-write-q : tie.Need-slice-write-q Inv-loop μ-loop
-slice-write-q c = room (c .before .before .before .before)
-
-add-i : tie.Need-add-i Inv-loop μ-loop
-add-i c = omega (arith, mul-q c)
-
-loop-less : tie.Need-loop-less Inv-loop μ-loop
-loop-less c = omega (arith, c .before .before .before .before .loop-test .taken)
-
-loop-again : tie.Need-loop-again Inv-loop μ-loop
-loop-again c =
-    let walk = c .before .before .before .before .before in
-    let a = walk .before .before .before .before .args in (
-      omega (arith, c .before .before .before .before .loop-test .taken),
-      turned-at
-          (Turned (walk .before .lowest-var .result) (a .b))
-          (a .t .now)
-          _
-          _
-          (walk .loop .inv .1)
-          (room (c .before .before .before .before))
-          (c .before .before .before .clause-at .ensures)
-          (λ d k free held. c .decide .ensures d k free (c .before .withdraw .ensures d k free held)),
+change-requires : tie.Need-change-requires
+change-requires c κs =
+    let known = c .before .before .before .before in
+    let pre = known .before .pre in (
+      pre .tallied .room,
+      shiftable
+          (pre .table)
+          (λ i. known .shared-slice-known .given i .fits)
+          (variable-below (c .before .lowest-var .ensures) (pre .variable))
+          (pre .tallied)
+          (steps c (pre .variable .var) (pre .decisions) (pre .variable .word) (pre .free)),
     )
 
-same-length : tie.Need-same-length Inv-loop μ-loop
-same-length c = c .before .loop .inv .1 .same
+same-length : tie.Need-same-length
+same-length c = search needs
 
-returns : tie.Need-returns Inv-loop μ-loop
-returns c v a k is free =
-    let start = c .before .before .before .before .before in
-    turns (c .loop-test .left) (number-is (c .before .before .lowest-var .ensures) (start .pre .variable) is) is (start .args .b) a k (c .before .loop .inv .1) free
+returns : tie.Need-returns
+returns c v a k is free = let made = c .before .before in made .change .ensures _ _ k (leads-by (steps (made .before) v a is free))
 
 pub turn-spec : {M : Type 1} → statement M
-turn-spec =
-    tie.close
-    (tie.spec
-    Inv-loop
-    μ-loop
-    lowest-var-requires
-    loop-holds
-    clause-at-requires
-    mul-withdraw
-    slice-read-withdraw
-    withdraw-requires
-    decide-requires
-    mul-q
-    slice-write-q
-    add-i
-    loop-less
-    loop-again
-    same-length
-    returns)
+turn-spec = tie.close (tie.spec lowest-var-requires turning-requires change-requires same-length returns)

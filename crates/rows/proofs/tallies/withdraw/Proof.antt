@@ -1,102 +1,47 @@
--- `rows::tallies::withdraw` meets its contract: a walk (`Walks`) whose turns put the word without the decision. Assumes nothing.
-use Prim.Native.Nat.{_-_, _≤_, _<_}
-use native.Mathlib.Omega.{arith}
+-- `rows::tallies::withdraw` meets its contract: a decision that is withdrawn changes the counts as `withdrawing` says (`Shifts`), and the walk over the
+-- blocks does the rest. Assumes nothing.
+use mathlib.Core.Path.{_≡_}
+use Prim.Native.Nat.{ℕ, _^_}
 use borrow.Author.Needs.{needs}
-use lib.ListN.{length}
-use Rattle.rows.proofs.Walks.{Walked, begins, turned-at, Withdrawn, Each, number-is, withdraws, decided-held}
+use Rattle.steps.specs.Clause.{Assignment, decide}
+use Rattle.steps.specs.Demands.{Free}
+use Rattle.rows.proofs.Shifts.{Steps, withdrawing, leads-by, shiftable}
+use Rattle.rows.proofs.Walks.{number-is, variable-below}
 use Rattle.rows.proofs.tallies.withdraw.Statement.{statement}
 use Rattle.rows.proofs.tallies.withdraw.Tie as tie
 
-abbrev Inv-loop : tie.InvT-loop
-Inv-loop t q₀ m w b v i₀ q i = (i ≤ m) × Walked (Each (Withdrawn v b) t) q₀ q i
-
-abbrev μ-loop : tie.MeasureT-loop
-μ-loop t q₀ m w b v i₀ q i = m - i
-
-lowest-var-requires : tie.Need-lowest-var-requires Inv-loop μ-loop
+lowest-var-requires : tie.Need-lowest-var-requires
 lowest-var-requires c κs = search needs
 
-loop-holds : tie.Need-loop-holds Inv-loop μ-loop
-loop-holds c = (omega arith, begins _)
+withdrawing-requires : tie.Need-withdrawing-requires
+withdrawing-requires c κs = search needs
 
--- there is a word for clause i
-room : (c : tie.In-loop Inv-loop μ-loop) → c .before .loop .i < length (c .before .loop .q)
-room c = omega (arith, c .loop-test .taken, c .before .loop .inv .1 .same, c .before .before .before .before .before .pre .tallied .room)
+-- how the withdrawal changes the counts, of a decision on a variable that was undecided
+steps : (c : tie.After-withdrawing) (v : ℕ) (a : Assignment)
+    → let g = c .before .before .before .before .before .args in
+    g .w ≡ 2 ^ v → Free v a → Steps (g .t .now) (g .m) (c .before .lowest-var .result) (c .withdrawing .result) (decide a (g .w) (g .b)) a
+steps c v a is free =
+    let start = c .before .before .before .before .before in
+    withdrawing (start .args .t .now) (start .args .m) (start .pre .proper) is (number-is (c .before .lowest-var .ensures) (start .pre .variable) is) free (start .args .b) (c .withdrawing .ensures)
 
-mul-withdraw : tie.Need-mul-withdraw Inv-loop μ-loop
-mul-withdraw c = omega (arith, c .loop-test .taken, c .before .before .before .before .before .pre .tallied .room, c .before .before .before .before .before .good)
-
-slice-read-withdraw : tie.Need-slice-read-withdraw Inv-loop μ-loop
-slice-read-withdraw c = room (c .before)
-
-clause-at-requires : tie.Need-clause-at-requires Inv-loop μ-loop
-clause-at-requires c κs = omega (arith, c .before .loop-test .taken, c .before .before .before .before .before .before .pre .table)
-
-withdraw-requires : tie.Need-withdraw-requires Inv-loop μ-loop
-withdraw-requires c κs =
-    decided-held
-    (c .before .before .before .before .lowest-var .ensures)
-    (c .before .before .before .loop .inv .1)
-    (c .before .before .loop-test .taken)
-    (c .before .before .before .before .before .before .before .args .b)
-    (c .before .before .before .before .before .before .before .pre)
-    _
-    (c .clause-at .ensures)
-    (omega (arith, c .clause-at .ok))
-    (omega (arith, c .clause-at .ok))
-
-mul-q : tie.Need-mul-q Inv-loop μ-loop
-mul-q c = omega (arith, mul-withdraw (c .before .before .before))
-
-slice-write-q : tie.Need-slice-write-q Inv-loop μ-loop
-slice-write-q c = room (c .before .before .before)
-
-add-i : tie.Need-add-i Inv-loop μ-loop
-add-i c = omega (arith, mul-q c)
-
-loop-less : tie.Need-loop-less Inv-loop μ-loop
-loop-less c = omega (arith, c .before .before .before .loop-test .taken)
-
-loop-again : tie.Need-loop-again Inv-loop μ-loop
-loop-again c =
-    let walk = c .before .before .before .before in
-    let a = walk .before .before .before .before .args in (
-      omega (arith, c .before .before .before .loop-test .taken),
-      turned-at
-          (Withdrawn (walk .before .lowest-var .result) (a .b))
-          (a .t .now)
-          _
-          _
-          (walk .loop .inv .1)
-          (room (c .before .before .before))
-          (c .before .clause-at .ensures)
-          (c .withdraw .ensures),
+change-requires : tie.Need-change-requires
+change-requires c κs =
+    let known = c .before .before .before .before in
+    let pre = known .before .pre in (
+      pre .tallied .room,
+      shiftable
+          (pre .table)
+          (λ i. known .shared-slice-known .given i .fits)
+          (variable-below (c .before .lowest-var .ensures) (pre .variable))
+          (pre .tallied)
+          (steps c (pre .variable .var) (pre .decisions) (pre .variable .word) (pre .free)),
     )
 
-same-length : tie.Need-same-length Inv-loop μ-loop
-same-length c = c .before .loop .inv .1 .same
+same-length : tie.Need-same-length
+same-length c = search needs
 
-returns : tie.Need-returns Inv-loop μ-loop
-returns c v a k is free =
-    let start = c .before .before .before .before .before in
-    withdraws (c .loop-test .left) (number-is (c .before .before .lowest-var .ensures) (start .pre .variable) is) is (start .args .b) a k (c .before .loop .inv .1) free
+returns : tie.Need-returns
+returns c v a k is free = let made = c .before .before in made .change .ensures _ _ k (leads-by (steps (made .before) v a is free))
 
 pub withdraw-spec : {M : Type 1} → statement M
-withdraw-spec =
-    tie.close
-    (tie.spec
-    Inv-loop
-    μ-loop
-    lowest-var-requires
-    loop-holds
-    mul-withdraw
-    slice-read-withdraw
-    clause-at-requires
-    withdraw-requires
-    mul-q
-    slice-write-q
-    add-i
-    loop-less
-    loop-again
-    same-length
-    returns)
+withdraw-spec = tie.close (tie.spec lowest-var-requires withdrawing-requires change-requires same-length returns)
