@@ -11,12 +11,15 @@ use optbook::{Book, Order};
 use port::{Ending, Outcome, Places, Request};
 use port::{PROGRAM_ALLOWANCE, PROGRAM_PLACES, PROGRAM_RECORD_PLACES};
 use std::hint::black_box;
+use std::iter::repeat_with;
 use std::time::{Duration, Instant};
 
 /// A row's runs take about this long in each checker.
 const ROW_TIME: Duration = Duration::from_millis(1500);
 /// Repeated runs of a row: at least and at most.
 const REPEATS: (usize, usize) = (5, 501);
+/// Branchings of a long run: at least and at most.
+const LONG: (u32, u32) = (200, 5000);
 /// Repeated runs of a row through the outside solver's process.
 const SOLVER_REPEATS: usize = 5;
 
@@ -166,7 +169,19 @@ fn rows(seed: u64) -> Vec<Row> {
         name: "largest, 64 options".to_string(),
         inputs: (0..3).map(|_| input(Order::default(), shapes::largest(&mut random))).collect(),
     });
+    for options in [48, 64] {
+        rows.push(Row {
+            name: format!("option book, {options} options, long runs"),
+            inputs: long_runs(&mut random, options, 20),
+        });
+    }
     rows
+}
+
+/// So many option books whose runs are long.
+fn long_runs(random: &mut Random, options: usize, books: usize) -> Vec<Input> {
+    let is_long = |input: &Input| (LONG.0..=LONG.1).contains(&run_port(input).branchings);
+    repeat_with(|| option_book(random, options)).filter(is_long).take(books).collect()
 }
 
 fn option_book(random: &mut Random, options: usize) -> Input {
@@ -305,6 +320,13 @@ mod tests {
         let times = [5, 1, 4].map(Duration::from_millis).to_vec();
         assert_eq!(median(times), Some(Duration::from_millis(4)));
         assert_eq!(median(Vec::new()), None);
+    }
+
+    #[test]
+    fn long_runs_are_long() {
+        let inputs = long_runs(&mut Random::new(3), 24, 2);
+        assert_eq!(inputs.len(), 2);
+        assert!(inputs.iter().all(|input| run_port(input).branchings >= LONG.0));
     }
 
     #[test]
