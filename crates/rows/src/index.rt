@@ -54,7 +54,7 @@ pub fn is_in(q: &[u64], u: usize, i: usize) -> bool
     words::bit_of(row(q, i / 64, u), (i % 64) as u32) == 1
 }
 
-// Puts it.
+// Puts the word of block j in row u.
 pub fn put_row(q: &mut [u64], j: usize, u: usize, x: u64)
     requires { ⌜ (131 * j + 131 ≤ length (now q)) × (u < 67) ⌝ }
     ensures { λ _. ⌜ now (q .exit) ≡ putRow (now (q .entry)) j u x ⌝ }
