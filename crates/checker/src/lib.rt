@@ -63,7 +63,7 @@ fn run_book(
         return Answer::Refused(9);
     }
     let mut q = [0u64; index::WORDS
-        * ((Book::MAX_CLAUSES + (Book::MAX_VARS as usize) + Book::MAX_DERIVED + 63)
+        * ((Book::MAX_CLAUSES + (Book::MAX_VARS as usize) + Book::MAX_DERIVED + index::BLOCK - 1)
             / index::BLOCK)];
     let mut rs = [0u64; records::WORDS * (Book::MAX_VARS as usize)];
     let done = decide::decide(b, o, allowance, pos.len(), t, &mut q, &mut rs);

@@ -13,7 +13,7 @@ use lib.Count.{ones}
 use lib.Dec.{eqb}
 use lib.ListN.{length}
 use borrow.Author.Tests.{eq-eqb, ne-eqb, ltb-true}
-use Rattle.words.specs.Words.{has, minus, meets, Within}
+use Rattle.words.specs.Words.{minus, meets, Within}
 use Rattle.words.proofs.Membership.{has-firstOf}
 use Rattle.words.proofs.Sets.{minus-within, meets-false-intro}
 use Rattle.words.proofs.Count.{ones-within}
@@ -24,11 +24,11 @@ use Rattle.steps.specs.Notes.{inPlay, gather}
 use Rattle.steps.specs.Sweep.{inactiveBy, monotone, strike}
 use Rattle.steps.specs.Enter.{falsifiedNaming}
 use Rattle.steps.specs.Merge.{joinOn, join, cover, resolvent, learn, resolve, mergeOn, merge}
-use Rattle.steps.specs.Shape.{Proper, Shape, OneOf}
+use Rattle.steps.specs.Shape.{Shape, OneOf}
 use Rattle.steps.specs.Demands.{Free}
 use Rattle.steps.proofs.Notes.{none-in-play, some-in-play}
 use Rattle.steps.proofs.Literals.{true-falsified, naming-some}
-use Rattle.steps.proofs.Resolvent.{resolvent-falsified, resolvent-proper}
+use Rattle.steps.proofs.Resolvent.{resolvent-falsified}
 use Rattle.steps.proofs.Parents.{parent-found}
 use Rattle.steps.proofs.ShapeKeep.{last-recorded, records-few, undecided-within, undecided-not-decided}
 use Rattle.steps.proofs.ShapeSides.{undecided-fewer}
@@ -242,19 +242,6 @@ module _ (e : Env) (a : Assignment) (v : ℕ) (j : State) where
       let first = naming-some v (decide a v true) (j .table) c (sym (parent-found e a v one j shape others true) ∙ n) in
       let second = naming-some v (decide a v false) (j .table) d (sym (parent-found e a v one j shape others false) ∙ p) in
       true-falsified a (resolvent v c d) (resolvent-falsified a v true c d (first .1) (second .1))
-
-  -- which is proper
-  pub resolvent-new : OneOf v (undecided e a)
-      → Shape e a j
-      → redundant j ≡ minus (undecided e a) v
-      → (c d : Clause)
-      → playing false ≡ some c
-      → playing true ≡ some d
-      → Proper (e .n) (resolvent v c d)
-  resolvent-new one shape others c d n p =
-      let first = naming-some v (decide a v true) (j .table) c (sym (parent-found e a v one j shape others true) ∙ n) in
-      let second = naming-some v (decide a v false) (j .table) d (sym (parent-found e a v one j shape others false) ∙ p) in
-      resolvent-proper a v true c d (first .1) (second .1) (e .n) (shape .clauses c (first .0)) (shape .clauses d (second .0))
 
 -- step 7 is the test on the joined state, and what comes of it
 pub merged : (e : Env) (a : Assignment) (v : ℕ) (b : Bool) (r : ℕ) (s j : State)

@@ -8,7 +8,7 @@ use Rattle.words.specs.Words.{minus, meets, Within}
 use Rattle.steps.specs.Clause as clause
 use Rattle.steps.specs.Clause.{decide}
 use Rattle.steps.specs.State.{undecided, redundant}
-use Rattle.steps.specs.Shape.{Proper, AllProper, Shape, OneOf}
+use Rattle.steps.specs.Shape.{Shape, OneOf}
 use Rattle.rows.specs.Values.{assignmentOf, sequentOf, envOf}
 use Rattle.rows.specs.Rows.{clauseWords, clauses, sequentWords, sequents, stateOf, Room}
 use Rattle.rows.specs.Index.{tallyWords}
@@ -33,19 +33,17 @@ pub record AllButOne (t q rs : List ℕ) (e : Env) (a : Assignment) (v : ℕ) (s
   pub others : redundant (stateOf t rs s) ≡ minus (undecided (envOf e) (assignmentOf a)) v
   pub tallied : TalliedAt t q rs (assignmentOf a) s
 
--- room for one more D-sequent, and for as many clauses as the run may hold. The clauses are proper, nothing struck is decided, and the tallies are those of the point.
--- d is the last D-sequent, and c a proper clause that the decisions falsify
+-- room for one more D-sequent, and for as many clauses as the run may hold. Nothing struck is decided, and the tallies are those of the point. d is the last D-sequent,
+-- and c a clause that the decisions falsify
 pub record Learning (t q rs : List ℕ) (e : Env) (a : Assignment) (d : DSequent) (c : clause.Clause) (s : Counts) : Type 0 where
   pub room : Room rs e s
   pub capacity : clauseWords (e .capacity) ≤ length t
   pub places : tallyWords (e .capacity) ≤ length q
   pub few : s .clauses ≤ e .capacity
-  pub proper : AllProper (e .vars) (clauses t (s .clauses))
   pub apart : meets (redundant (stateOf t rs s)) (a .decided) ≡ false
   pub tallied : TalliedAt t q rs (assignmentOf a) s
   pub last : sequentOf d ≡ clause.last (sequents rs (s .records))
   pub broken : clause.falsified (assignmentOf a) c ≡ true
-  pub new : Proper (e .vars) c
 
 -- a joined state, with room for as many clauses as the run may hold
 pub record Testing (t q rs : List ℕ) (e : Env) (a : Assignment) (v : ℕ) (s : Counts) : Type 0 where

@@ -4,7 +4,6 @@ ghost use mathlib.Core.Bool.{Bool};
 ghost use mathlib.Core.List.{List};
 ghost use Prim.Native.Nat.{ℕ, _≤_};
 ghost use lib.ListN.{length};
-ghost use Rattle.steps.specs.Shape.{AllProper};
 ghost use Rattle.steps.specs.Sweep.{monotone as Monotone};
 ghost use Rattle.steps.specs.Merge.{cover, settle as Settle, learn as Learn, join as Join, mergeOn, merge as Merge};
 ghost use Rattle.rows.specs.Values.{clauseOf, assignmentOf, envOf};
@@ -64,7 +63,7 @@ fn join(rs: &mut [u64], e: Env, a: Assignment, v: u64, r: u64, s: Counts) -> Cou
 // A clause of the table that the decisions here falsify: the empty one ends the run, and every other one strikes all undecided variables.
 fn settle(q: &mut [u64], rs: &mut [u64], e: Env, a: Assignment, c: Clause, s: Counts) -> Side
     requires { ⌜ Room (now rs) e s × (tallyWords (s .clauses) ≤ length (now q)) ⌝ }
-    ensures { λ r. ⌜ ((t : List ℕ) → (sideOf t (now (rs .exit)) r ≡ Settle (envOf e) (assignmentOf a) (clauseOf c) (stateOf t (now (rs .entry)) s)) × (AllProper (e .vars) (clauses t (s .clauses)) → TalliedAt t (now (q .entry)) (now (rs .entry)) (assignmentOf a) s → TalliedSide t (now (q .exit)) (now (rs .exit)) a r)) ⌝ }
+    ensures { λ r. ⌜ ((t : List ℕ) → (sideOf t (now (rs .exit)) r ≡ Settle (envOf e) (assignmentOf a) (clauseOf c) (stateOf t (now (rs .entry)) s)) × (TalliedAt t (now (q .entry)) (now (rs .entry)) (assignmentOf a) s → TalliedSide t (now (q .exit)) (now (rs .exit)) a r)) ⌝ }
 {
     if clause::vars(c) == 0 {
         return Side::Ended(Ending::Cannot, a, s);

@@ -73,7 +73,7 @@ module _ {q q₁ q₂ q₃ : List ℕ} {i : ℕ} {c : Clause} {a : Assignment} {
 
 -- ---- the tallies after them
 
--- clause i comes after every other
+-- a number other than i is below i exactly if it is below the next
 ltb-next : (x i : ℕ) → x ≢ i → ltb x i ≡ ltb x (i + 1)
 ltb-next x i other = go (ltb x i) refl
   where

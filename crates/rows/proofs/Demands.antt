@@ -53,9 +53,11 @@ in-order t q m a k tallied =
     ∙ ap (map wordOf) (map-from (tallyOf a k) (clauseAt t) 0 m)
 
 indexing : Indexing
+unfolding tallyOf
 indexing =
     record {
       named = λ t q m a k x i v h l. named-is x i h v l;
+      marked = λ t q m a k x i h. struck-is x i h;
       in-play = λ t q m a k x fits i h. playing-is x i h (few-at t fits a i) ∙ ap not (by-tally .out a k (clauseAt t i));
     }
 

@@ -66,11 +66,6 @@ module _ {A : Type 0} where
   from-same f g i (suc k) h =
       ap₂ (λ (x : A) (l : List A). x ∷ l) (h i (omega arith) (omega arith)) (from-same f g (suc i) k (λ j a b. h j (omega arith) (omega arith)))
 
-  -- something was found
-  abbrev pub found : Option A → Bool
-  found none = false
-  found (some x) = true
-
   -- of m values none below i passes the test
   abbrev pub NoneBelow : (A → Bool) → (ℕ → A) → ℕ → ℕ → Type 0
   NoneBelow p f m i = (k : ℕ) → k < i → k < m → p (f k) ≡ false
@@ -101,15 +96,6 @@ module _ {A : Type 0} where
     -- with all failing, none is found
     pub find-none : (f : ℕ → A) (i m : ℕ) → m ≤ i → NoneBelow p f m i → find p (from f 0 m) ≡ none
     find-none f i m h all = passed (find p) f m m find-next (omega arith) (λ k l b. all k (omega arith) b) ∙ ap (find p) (from-end f m m (omega arith))
-
-    -- some value passes exactly where the look for one finds something, here by a test q that says the same
-    pub any-found : (q : A → Bool) → ((x : A) → p x ≡ q x) → (xs : List A) → any p xs ≡ found (find q xs)
-    any-found q same [] = refl
-    any-found q same (x ∷ xs) = go (q x) refl (any-found q same xs)
-      where
-        go : (b : Bool) → q x ≡ b → any p xs ≡ found (find q xs) → any p (x ∷ xs) ≡ found (find q (x ∷ xs))
-        go true e ih = rw (same x, e, find) refl
-        go false e ih = rw (same x, e, find) ih
 
     -- the one at i passes
     pub any-at : (f : ℕ → A) (i m : ℕ) → i < m → NoneBelow p f m i → p (f i) ≡ true → any p (from f 0 m) ≡ true

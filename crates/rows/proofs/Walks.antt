@@ -102,11 +102,13 @@ module _ {P : List ℕ → ℕ → Type 0} where
 variable-is : {w v u : ℕ} → v ≡ trailingZeros 64 w → w ≡ 2 ^ u → u < 64 → v ≡ u
 variable-is {w} {v} {u} e f h = e ∙ ap (trailingZeros 64) f ∙ trailing-bit 64 u h
 
+-- of a variable that is known by another number it is that one
 pub number-is : {w v u : ℕ} → v ≡ trailingZeros 64 w → Variable w → w ≡ 2 ^ u → v ≡ u
 number-is {w} {v} {u} e x f =
     let same : x .var ≡ u = has-bit-eq (x .var) u (ap (λ (z : ℕ). has z u) (sym (x .word) ∙ f) ∙ has-bit u) in
     variable-is e f (rw (← same) (x .below))
 
+-- and it is below 64
 pub variable-below : {w v : ℕ} → v ≡ trailingZeros 64 w → Variable w → v < 64
 variable-below e x = omega (arith, variable-is e (x .word) (x .below), x .below)
 

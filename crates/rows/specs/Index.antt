@@ -39,7 +39,7 @@ naming v = 3 + v
 abbrev pub rowAt : List ℕ → ℕ → ℕ → ℕ
 rowAt q j u = getD q (131 * j + 64 + u) 0
 
--- the table with another one
+-- the table with the word x there
 abbrev pub putRow : List ℕ → ℕ → ℕ → ℕ → List ℕ
 putRow q j u x = set q (131 * j + 64 + u) x
 
@@ -83,7 +83,7 @@ abbrev pub masked : Bool → ℕ → ℕ
 masked true x = x
 masked false x = 0
 
--- its rows are empty, and its counts as they were
+-- the rows of block j are empty, and its counts as they were
 pub record Emptied (q q′ : List ℕ) (j : ℕ) : Type 0 where
   pub only : Only q q′ j
   pub counts : (b : ℕ) → b < 64 → countAt q′ j b ≡ countAt q j b

@@ -27,7 +27,7 @@ countsOf a c = 2 * ones (keepers a c) + 256 * undecidedIn a c
 abbrev pub Counted : Assignment → Clause → ℕ → Type 0
 Counted a c x = x ≡ countsOf a c
 
--- what it says: no decision satisfies the clause; and exactly one literal is undecided
+-- what it says: no decision satisfies the clause; none does, and exactly one literal is undecided
 abbrev pub isUnsatisfied : ℕ → Bool
 isUnsatisfied x = eqb (x % 256) 0
 
@@ -38,15 +38,17 @@ isSingle x = eqb x 256
 abbrev pub wordOf : Tally → ℕ
 wordOf x = digit (x .struck) + 2 * x .keepers + 256 * x .undecided
 
--- what the table holds of clause i, in one word
+-- what the table holds of clause i, in one word: the mark is its digit in the struck row, and all else its counts
 abbrev pub tallyAt : List ℕ → ℕ → ℕ
-tallyAt q i = digit (isIn q struck i) + countOf q i
+tallyAt q i = digit (isIn q struck i) + 2 * (countOf q i / 2)
 
 -- ---- how a decision on a variable changes the word of a clause that names it. p says whether it has the literal of the sign
 
+-- the word x after the change d
 abbrev pub changed : Delta → Bool → ℕ → ℕ
 changed d p x = x + d .up + masked p (2 ^ d .shift) - d .down
 
+-- the change can be made: the word is small, and what is taken away is there
 pub record Changeable (d : Delta) (p : Bool) (x : ℕ) : Type 0 where
   pub small : x < 65536
   pub up : d .up ≤ 256
@@ -68,7 +70,8 @@ turningOf b = record { up = 0; down = 2; sign = not b; shift = 2 }
 -- ---- the tallies of a table
 
 -- block j of the m clauses of t is as the tallies at the decisions a and the struck set k are: each clause has its counts, and its digit is in the row of a variable
--- exactly if it names it, in the row of the struck ones exactly if it names one of k, and in the others exactly if its counts say so
+-- exactly if it names it, in that of the struck ones exactly if it names one of k, in that of those that no decision satisfies exactly if its counts say so, and in play
+-- exactly if it is there and not among the struck ones
 pub record Block (t q : List ℕ) (m j : ℕ) (a : Assignment) (k : ℕ) : Type 0 where
   pub counted : (b : ℕ) → b < 64 → 64 * j + b < m → Counted a (clauseAt t (64 * j + b)) (countAt q j b)
   pub named : (v b : ℕ) → v < 64 → b < 64 → has (rowAt q j (naming v)) b ≡ (ltb (64 * j + b) m && has (vars (clauseAt t (64 * j + b))) v)

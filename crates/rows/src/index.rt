@@ -70,7 +70,7 @@ fn both(q: &[u64], j: usize, u: usize, w: usize) -> u64
     row(q, j, u) & row(q, j, w)
 }
 
-// Goes on from block j, of which the clauses `word` are left, to the next clause in both rows; to m where there is none.
+// Goes on from the block, of which the clauses `word` are left, to the next clause in both rows; to m where there is none.
 fn seek(q: &[u64], m: usize, u: usize, w: usize, block: usize, word: u64) -> Cursor
     requires { ⌜ (tallyWords m ≤ length (now q)) × (64 * block < m) × (u < 67) × (w < 67) ⌝ }
     ensures { λ r. ⌜ ((low : ℕ) → low ≤ 64 → 64 * block + low ≤ m → From (now (q .entry)) u w block low word → Standing (now (q .entry)) m u w r × Passed (now (q .entry)) m u w (64 * block + low) r) ⌝ }

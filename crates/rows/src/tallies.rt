@@ -1,5 +1,5 @@
-// The tallies of all clauses of the table, in q: a walk for each change of the decisions or of the struck set. Deciding a variable, turning it over, withdrawing it and
-// striking it go through the clauses of its row in the index; a new struck set goes through the rows of its variables.
+// The tallies of all clauses of the table, in q: a function for each change of the decisions or of the struck set. Deciding a variable, turning it over and withdrawing it
+// go through the clauses of its row in the index. Striking it takes the words of its row, and a new struck set those of its variables' rows: no clause is looked at.
 ghost use mathlib.Core.Path.{_≡_};
 ghost use mathlib.Core.Bool.{not};
 ghost use mathlib.Core.List.{List};
@@ -155,7 +155,7 @@ pub fn withdraw(t: &[u64], q: &mut [u64], m: usize, w: u64, b: bool)
 
 // ---- the struck set
 
-// The variable w is struck. Answers whether a clause that was in play names it.
+// The variable w is struck. Where it answers false no clause that was in play names it.
 pub fn strike(q: &mut [u64], m: usize, w: u64) -> bool
     requires { ⌜ (tallyWords m ≤ length (now q)) × Variable w ⌝ }
     ensures { λ r. ⌜ ((t : List ℕ) (a : Decisions) (k : ℕ) → Tallied t (now (q .entry)) m a k → Tallied t (now (q .exit)) m a (bitOr k w)) × Leaving (now (q .entry)) m w r ⌝ }

@@ -1,5 +1,5 @@
 -- What is demanded of the tallies that a run leaves, as a named type that is proved in `proofs/`. `LeftTallied q x` is the contract of `run`: x is what the search from
--- the starting point comes to, and q the words of tallies at the end. `talliesLeft` has the decisions and the list of the place where the run went up or ended; the page
+-- the starting point comes to, and q the table of tallies at the end. `talliesLeft` has the decisions and the list of the place where the run went up or ended; the page
 -- of the steps has it computed for each of the four endings (`TalliesLeft`).
 use mathlib.Core.Path.{_≡_}
 use mathlib.Core.List.{List, _∷_, _++_}
@@ -12,7 +12,7 @@ use Rattle.steps.specs.Run.{noDecisions}
 use Rattle.rows.specs.Tally.{wordOf, tallyAt}
 use Rattle.search.specs.Values.{LeftTallied}
 
--- every rule c of the table at the end, derived ones among them, has at its number the word of its tallies: at a verdict and at a stop those of the decisions d and of
+-- every rule c of the table at the end, derived ones among them: what is held at its number is its tallies, at a verdict and at a stop those of the decisions d and of
 -- the list there, be it "cannot", whose list is replaced afterwards; and where the run went back up from the starting point, those of no decisions
 pub record RuleByRule : Type 0 where
   pub ended :

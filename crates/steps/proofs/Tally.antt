@@ -8,10 +8,10 @@ use native.Mathlib.Omega.{arith}
 use lib.Bits.{bitAnd, bitOr}
 use lib.Count.{ones}
 use lib.Dec.{eqb}
-use Rattle.words.specs.Words.{isZero, digit, has, minus, meets, firstOf, Within}
+use Rattle.words.specs.Words.{isZero, digit, has, minus, meets}
 use Rattle.words.proofs.Truth.{both-ways, refuted, not-not}
 use Rattle.words.proofs.Membership.{has-and, has-or, has-minus, has-bit-eq, ext}
-use Rattle.words.proofs.Sets.{nonzero, in-and, in-minus, and-within-l, and-within-r, minus-within, minus-out, meets-false-intro, minus-or, minus-both, within-antisym}
+use Rattle.words.proofs.Sets.{nonzero, and-within-r, minus-within, meets-false-intro, minus-or, minus-both, within-antisym}
 use Rattle.words.proofs.Unions.{or-nonzero, meets-or, meets-bit}
 use Rattle.words.proofs.Count.{ones-disjoint, ones-remove, ones-bit-and, zero-ones}
 use Rattle.steps.specs.Clause.{Clause, literals, vars, Assignment, decide, keepers, satisfied, falsified, names, inactive, undecidedIn}
@@ -48,17 +48,6 @@ kept a c = ap not (sym (zero-ones (keepers a c)))
 none-undecided : (a : Assignment) (c : Clause) → isZero (minus (vars c) (a .decided)) ≡ isZero (undecidedIn a c)
 unfolding undecidedIn vars
 none-undecided a c = ap isZero (minus-or (c .pos) (c .neg) (a .decided)) ∙ union-counted (minus (c .pos) (a .decided)) (minus (c .neg) (a .decided))
-
--- a clause of the first n variables names one that is undecided where it has an undecided literal
-pub names-undecided : (n : ℕ) (a : Assignment) (c : Clause) → Within (vars c) (firstOf n) → names (minus (firstOf n) (a .decided)) c ≡ not (isZero (undecidedIn a c))
-unfolding names meets
-names-undecided n a c named =
-    let d = a .decided in
-    let same : bitAnd (vars c) (minus (firstOf n) d) ≡ minus (vars c) d =
-    within-antisym (bitAnd (vars c) (minus (firstOf n) d)) (minus (vars c) d)
-    (λ k h. in-minus (vars c) d k (and-within-l (vars c) (minus (firstOf n) d) k h) (minus-out (firstOf n) d k (and-within-r (vars c) (minus (firstOf n) d) k h)))
-    (λ k h. let m = minus-within (vars c) d k h in in-and (vars c) (minus (firstOf n) d) k m (in-minus (firstOf n) d k (named k m) (minus-out (vars c) d k h))) in
-    ap (λ (x : ℕ). not (isZero x)) same ∙ ap not (none-undecided a c)
 
 pub by-tally : ByTally
 unfolding tallyOf falsified unit inactive

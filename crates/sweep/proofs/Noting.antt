@@ -23,21 +23,24 @@ module _ (a : Assignment) (k : ℕ) (c : Clause) where
   adds-literals x h = rw (h, note)
 
 module _ (a : Assignment) (k w : ℕ) where
-  -- it is inactive exactly if it was
+  -- a third of three adds nothing where it is false with the others
   still : (p q r : Bool) → ((p || q) ≡ false → r ≡ false) → (p || (q || r)) ≡ (p || q)
   still true q r h = refl
   still false true r h = refl
   still false false r h = h refl
 
+  -- the clause is inactive exactly if it was
   inactive-still : (c : Clause) → (inactive a k c ≡ false → names w c ≡ false) → inactive a (bitOr k w) c ≡ inactive a k c
   unfolding inactive names
   inactive-still c h = ap (λ (p : Bool). satisfied a c || p) (meets-or (vars c) k w) ∙ still (satisfied a c) (names k c) (names w c) h
 
+  -- so its turn is the same
   note-still : (c : Clause) (x : Notes) → inactive a (bitOr k w) c ≡ inactive a k c → note a (bitOr k w) c x ≡ note a k c x
   unfolding note
   note-still c x e = rw (e, note)
 
   module _ (t : List ℕ) where
+    -- and the walk, clause by clause
     walk-still : (x : Notes) (i n : ℕ) → ((y : ℕ) → i ≤ y → y < i + n → inactive a k (clauseAt t y) ≡ false → names w (clauseAt t y) ≡ false)
         → walk a (bitOr k w) x (from (clauseAt t) i n) ≡ walk a k x (from (clauseAt t) i n)
     unfolding walk

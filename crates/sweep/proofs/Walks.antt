@@ -15,13 +15,14 @@ use Rattle.rows.specs.Rows.{from, clauseAt, clauses}
 use Rattle.rows.proofs.Lists.{from-step, from-end}
 use Rattle.sweep.proofs.Noting.{adds-nothing}
 
--- what goes on past each number from i on to j goes on to j
+-- what goes on past each of d numbers from i on goes past all of them
 goes-on : (P : ℕ → Type 0) (i d : ℕ) → ((y : ℕ) → i ≤ y → y < i + d → P y → P (y + 1)) → P i → P (i + d)
 goes-on P i zero step h = rw (add-zero i) h
 goes-on P i (suc d) step h =
     let e : i + suc d ≡ i + d + 1 = omega arith in
     rw e (step (i + d) (omega arith) (omega arith) (goes-on P i d (λ y l u. step y l (omega arith)) h))
 
+-- from i on to j
 pub skips : (P : ℕ → Type 0) (i j : ℕ) → i ≤ j → ((y : ℕ) → i ≤ y → y < j → P y → P (y + 1)) → P i → P j
 skips P i j h step from =
     let e : j ≡ i + (j - i) = omega arith in

@@ -43,7 +43,7 @@ enum Chosen {
     Nothing,
 }
 
-// A clause's turn in the notes, which is in play: it adds its literals.
+// The turn of a clause in play: it adds its literals.
 fn note(c: Clause, seen: Noted) -> Noted
     ensures { λ r. ⌜ ((a : Decisions) (k : ℕ) → inactive a k (clauseOf c) ≡ false → notesOf r ≡ Note a k (clauseOf c) (notesOf seen)) ⌝ }
 {
@@ -83,7 +83,7 @@ fn notes(t: &[u64], q: &[u64], m: usize) -> Noted
 // A later round: strikes the variable w, and gives the notes from then on. Where no clause in play names it they are those before, `seen`.
 fn strike(t: &[u64], q: &mut [u64], m: usize, w: u64, seen: Noted) -> Noted
     requires { ⌜ (clauseWords m ≤ length (now t)) × (tallyWords m ≤ length (now q)) × Variable w ⌝ }
-    ensures { λ r. ⌜ ((a : Decisions) (k : ℕ) → Tallied (now (t .entry)) (now (q .entry)) m a k → notesOf seen ≡ Notes a k (clauses (now (t .entry)) m) → Tallied (now (t .entry)) (now (q .exit)) m a (bitOr k w) × (notesOf r ≡ Notes a (bitOr k w) (clauses (now (t .entry)) m))) ⌝ }
+    ensures { λ r. ⌜ ((a : Decisions) (k : ℕ) → Tallied (now (t .entry)) (now (q .entry)) m a k → Tallied (now (t .entry)) (now (q .exit)) m a (bitOr k w) × (notesOf seen ≡ Notes a k (clauses (now (t .entry)) m) → notesOf r ≡ Notes a (bitOr k w) (clauses (now (t .entry)) m))) ⌝ }
 {
     if tallies::strike(q, m, w) {
         return notes(t, q, m);

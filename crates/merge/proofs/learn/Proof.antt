@@ -1,6 +1,6 @@
 -- `merge::learn` meets its contract. The clause that is found to cover is the definition's. Where none is, the test of the count against the capacity is
 -- the definition's on the length of the table, and the two words stored after the last clause are the clause that the definition adds (`put-clause-at-end`).
--- The list stays, so the tallies are added to at its last set, and the clauses are proper still. Assumes nothing.
+-- The list stays, so the tallies are added to at its last set. Assumes nothing.
 use mathlib.Core.Path.{_≡_, ap, sym, _∙_, subst, subst⁻¹}
 use mathlib.Core.Bool.{true, false}
 use mathlib.Core.List.{List}
@@ -15,8 +15,6 @@ use Rattle.words.proofs.Truth.{when-true, when-false}
 use Rattle.steps.specs.Clause.{Clause, DSequent}
 use Rattle.steps.specs.State.{added}
 use Rattle.steps.specs.Merge.{cover, settle, learn}
-use Rattle.steps.specs.Shape.{AllProper}
-use Rattle.steps.proofs.ShapeKeep.{proper-added}
 use Rattle.rows.specs.Values.{clauseOf, assignmentOf, envOf, foundOf}
 use Rattle.rows.specs.Rows.{clauses, stateOf, clauseWords}
 use Rattle.rows.specs.Tally.{Tallied}
@@ -65,7 +63,7 @@ returns c =
     let told = c .before .before .before .before .before .before .before .before in
     let start = told .before .before .before .before .before .before .before .before in
     let then = settled .ensures (start .args .t .now) in
-    (then .0 ∙ decided (told .before .before) _ (ap foundOf (sym (told .found .given .1))), then .1 (start .pre .proper) (start .pre .tallied))
+    (then .0 ∙ decided (told .before .before) _ (ap foundOf (sym (told .found .given .1))), then .1 (start .pre .tallied))
 
 enum-told : tie.Need-enum-told
 enum-told c = search needs
@@ -123,7 +121,6 @@ returns-3 c =
     ap (λ (k : ℕ). ltb k (x .e .capacity)) (clauses-length (x .t .now) m) ∙ lt-ltb m (x .e .capacity) below in
     let table : clauses (more .add .last .0) (m + 1) ≡ added (clauseOf (x .c)) s .table =
     ap (λ (l : List ℕ). clauses l (m + 1)) (more .add .ensures .0) ∙ put-clause-at-end (x .t .now) m _ (next m (x .e .capacity) _ below fits) in
-    let proper = subst⁻¹ (AllProper (x .e .vars)) table (proper-added (x .e .vars) (clauseOf (x .c)) (s .table) (start .pre .proper) (start .pre .new)) in
     let tallied =
     subst
     (λ (k : ℕ). Tallied (x .t .now) (x .q .now) m (assignmentOf (x .a)) k → Tallied (more .add .last .0) (more .add .last .1 .0) (m + 1) (assignmentOf (x .a)) k)
@@ -137,7 +134,7 @@ returns-3 c =
           table
           ∙ (sym (when-true (ltb (length (s .table)) (x .e .capacity)) _ _ room)
           ∙ decided (told .before .before) none (ap foundOf (sym (told .enum-told .given .1))))),
-      then .1 proper tallied,
+      then .1 tallied,
     )
 
 pub learn-spec : {M : Type 1} → statement M

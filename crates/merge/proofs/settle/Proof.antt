@@ -20,7 +20,7 @@ vars-requires c κs = search needs
 returns : tie.Need-returns
 returns c t =
     let x = c .before .before .before .before .args in
-    (sym (when-true (isZero (vars (clauseOf (x .c)))) _ _ (ap isZero (sym (c .before .vars .ensures) ∙ c .if1 .taken))), λ proper tallied. tallied)
+    (sym (when-true (isZero (vars (clauseOf (x .c)))) _ _ (ap isZero (sym (c .before .vars .ensures) ∙ c .if1 .taken))), λ tallied. tallied)
 
 undecided-requires : tie.Need-undecided-requires
 undecided-requires c κs = search needs
@@ -49,7 +49,7 @@ returns-2 c t =
     let is = made .ensures t in (
       ap up is
           ∙ sym (when-false (isZero (vars (clauseOf (x .c)))) _ _ (ap isZero (sym (named .ensures)) ∙ nonzero (named .result) (test .if1 .left))),
-      λ proper tallied.
+      λ tallied.
           tallied-at (made .last .0) (made .result) (assignmentOf (x .a)) _ is refl
           (append-redundant (assignmentOf (x .a)) _ _ s ∙ sym (struck .before .undecided .ensures))
           (struck .restrike .ensures t (assignmentOf (x .a)) (redundant s) tallied),

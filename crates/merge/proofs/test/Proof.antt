@@ -14,7 +14,7 @@ use Rattle.rows.specs.Values.{assignmentOf, envOf, foundOf}
 use Rattle.rows.specs.Rows.{stateOf}
 use Rattle.rows.specs.Tally.{Variable}
 use Rattle.sweep.specs.Sweep.{Striking}
-use Rattle.merge.proofs.Joined.{branched-variable, struck-apart, passes-negative, passes-positive, resolves, resolvent-broken, resolvent-new}
+use Rattle.merge.proofs.Joined.{branched-variable, struck-apart, passes-negative, passes-positive, resolves, resolvent-broken}
 use Rattle.merge.proofs.test.Statement.{statement}
 use Rattle.merge.proofs.test.Tie as tie
 
@@ -155,16 +155,12 @@ learn-requires c κs =
       capacity = pre .capacity;
       places = pre .places;
       few = pre .clauses;
-      proper = pre .shape .clauses;
       apart = struck-apart (pre .others-struck);
       tallied = pre .others-struck .tallied;
       last = d .last .ensures;
       broken =
           ap (falsified a) (c .resolvent .ensures)
           ∙ resolvent-broken (envOf (x .e)) a (x .v) s (pre .others-struck .branched) (pre .shape) (pre .others-struck .others) _ _ negatives positives;
-      new =
-          subst⁻¹ (Proper (x .e .vars)) (c .resolvent .ensures)
-          (resolvent-new (envOf (x .e)) a (x .v) s (pre .others-struck .branched) (pre .shape) (pre .others-struck .others) _ _ negatives positives);
     }
 
 same-length-7 : tie.Need-same-length-7

@@ -2,7 +2,7 @@
 -- struck set that the tallies are of, is the notes so far with what is noted from there on. A clause that the walk passes is inactive, and adds nothing; the one at which it
 -- stands is in play. The measure is how many clauses are left. Assumes nothing.
 use mathlib.Core.Path.{_≡_, refl, sym, ap, _∙_}
-use mathlib.Core.Bool.{Bool, true, false, not, _&&_}
+use mathlib.Core.Bool.{Bool, true, false, _&&_}
 use mathlib.Core.List.{List}
 use Prim.Native.Nat.{ℕ, _-_, _<_}
 use native.Mathlib.Omega.{arith}

@@ -50,17 +50,18 @@ same-length : tie.Need-same-length
 same-length c = search needs
 
 returns : tie.Need-returns
-returns c a k x seen = let struck = c .before .before .before .before .before .strike .ensures .0 _ a k x in (struck, c .notes .ensures a _ struck)
+returns c a k x = let struck = c .before .before .before .before .before .strike .ensures .0 _ a k x in (struck, λ seen. c .notes .ensures a _ struck)
 
 same-length-2 : tie.Need-same-length-2
 same-length-2 c = search needs
 
 returns-2 : tie.Need-returns-2
-returns-2 c a k x seen =
+returns-2 c a k x =
     let s = c .before .before .before .strike in
     let start = c .before .before .before .before .before .before .before in (
       s .ensures .0 _ a k x,
-      seen
+      λ seen.
+          seen
           ∙ sym (notes-still a k _ _ _
           (unnamed x (few-at (start .args .t .now) (λ j. c .before .before .before .before .before .before .shared-slice-known .given j .fits) a) (start .pre .2) (s .ensures .1) (c .if1 .left))),
     )

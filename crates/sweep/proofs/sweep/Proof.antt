@@ -218,8 +218,8 @@ then c =
     let g = l .before .before .before .before .before .before .before .before .before .before .before .args in
     let s = stateOf (g .t .now) (l .loop .rs) (l .loop .now) in
     let w = f .found .given .0 .0 in
-    let walk = c .before .before .before .before .before .before .strike .ensures (assignmentOf (g .a)) _ (l .loop .inv .5) (l .loop .inv .3) in (
-      walk .1
+    let walk = c .before .before .before .before .before .before .strike .ensures (assignmentOf (g .a)) _ (l .loop .inv .5) in (
+      walk .1 (l .loop .inv .3)
           ∙ sym (notes-after (assignmentOf (g .a)) s (w .var) (reasons (assignmentOf (g .a)) s (literalOf w)))
           ∙ ap (λ (x : State). notes (assignmentOf (g .a)) (redundant x) (x .table)) (sym (strikes c)),
       tallied-at (c .append .last .0) (c .append .result) (assignmentOf (g .a)) _ (strikes c) refl (append-redundant (assignmentOf (g .a)) _ _ s) (walk .0),

@@ -1,4 +1,4 @@
--- `rows::index::both` meets its contract: what the two words share that were read.
+-- `rows::index::both` meets its contract: what the two words share that were read. Assumes nothing.
 use mathlib.Core.Path.{ap₂}
 use borrow.Author.Needs.{needs}
 use lib.Bits.{bitAnd}
