@@ -1,44 +1,29 @@
 -- What bytes are that no row refuses, and an order with them. Each row that does not hold gives its fact: the sizes are within the limits, the
--- length is right, each clause is proper, and so are the order's words, which then have no more members than the book has variables.
+-- length is right, each clause is proper, and the completed order is one over the book's variables (`Orders`).
 use mathlib.Core.Path.{_≡_, refl, sym, ap, subst, _∙_}
 use mathlib.Core.Logic.{⊎-elim}
-use mathlib.Core.Bool.{true, false}
 use mathlib.Core.List.{List, [], _∷_, List·Memᴰ·cases-cons, List·Memᴰ·not-nil, List·Memᴰ·head, List·Memᴰ·tail}
 use mathlib.Core.Option.{some, none}
 use Prim.Native.Nat.{ℕ, _≤_}
 use native.Mathlib.Omega.{arith}
-use borrow.Author.Tests.{eqb-true, not-false}
-use lib.Bits.{bitOr}
+use borrow.Author.Tests.{eqb-true}
 use lib.Dec.{ltb}
 use lib.ListN.{length}
-use Rattle.words.specs.Words.{meets, firstOf, Within}
-use Rattle.words.proofs.Sets.{within-trans, or-within-l, or-within-r, minus-empty, within-minus}
-use Rattle.words.proofs.Count.{ones-disjoint, ones-within, ones-firstOf}
 use Rattle.steps.specs.Clause.{Clause, vars}
-use Rattle.steps.specs.Run.{Assumptions, units}
+use Rattle.steps.specs.Run.{units}
 use Rattle.steps.specs.Shape.{Proper, AllProper, Input}
+use Rattle.order.specs.Order.{Order, complete}
 use Rattle.rows.specs.Rows.{clauseWords, clauses}
 use Rattle.rows.proofs.Tables.{clauses-length}
 use Rattle.book.specs.Limits.{maxVars, maxClauses}
 use Rattle.book.specs.Bytes.{bookBytes, varsIn, countIn, rulesIn}
-use Rattle.book.specs.Refusals.{row, firstRow, above, ruleRows, bookRows, orderRows, admitRows}
+use Rattle.book.specs.Refusals.{row, firstRow, ruleRows, bookRows, orderRows, admitRows}
 use Rattle.book.specs.Reading.{Reading.book, Reading.refused, read, admit, readOrder, readTable, WellFormed}
 use Rattle.book.proofs.Refusals.{first-none, none-here, none-later, first-among, first-after, none-among}
-use Rattle.book.proofs.Tests.{five, six, seven, eight, none-sizes, none-rest, rule-passed}
+use Rattle.book.proofs.Tests.{five, six, none-sizes, none-rest, rule-passed}
 use Rattle.book.proofs.Bytes.{length-clausesIn}
 use Rattle.book.proofs.Readings.{judged-book, judged-refused, refused-by, book-by, whole, sizes, read-rules, exact, tableRows}
-use Rattle.book.proofs.Units.{length-units, length-unitsOf}
-
--- ---- two words
-
--- words with no option above n are within the first n
-pub within-above : (n p q : ℕ) → above n p q ≡ false → Within (bitOr p q) (firstOf n)
-unfolding above
-within-above n p q h = minus-empty (bitOr p q) (firstOf n) (not-false _ h)
-
-above-within : (n p q : ℕ) → Within (bitOr p q) (firstOf n) → above n p q ≡ false
-unfolding above
-above-within n p q h = rw (within-minus (bitOr p q) (firstOf n) h)
+use Rattle.book.proofs.Orders.{within-above, above-within, order-input, order-few, same-passes}
 
 -- ---- the clauses
 
@@ -102,51 +87,17 @@ passed-formed : (bytes : List ℕ) → Passed bytes → WellFormed (varsIn bytes
 passed-formed bytes p =
     record { vars-few = p .vars-few; clauses-few = omega (arith, length-clausesIn (countIn bytes) bytes, p .clauses-few); proper = p .proper }
 
--- ---- the order
-
-module _ (n : ℕ) (o : Assumptions) (e : firstRow (orderRows n o) ≡ none) where
-  -- an order that no row refuses names only the first n variables, and none as wanted and unwanted
-  order-within : Within (bitOr (o .pos) (o .neg)) (firstOf n)
-  unfolding orderRows
-  order-within = within-above n (o .pos) (o .neg) (none-here (seven n o) (eight o ∷ []) e)
-
-  order-apart : meets (o .pos) (o .neg) ≡ false
-  unfolding orderRows
-  order-apart = none-here (eight o) [] (none-later (seven n o) (eight o ∷ []) e)
-
-  -- so it is an input of the steps to a book of n variables
-  order-input : (cs : List Clause) → AllProper n cs → Input n cs o
-  order-input cs proper =
-      record {
-        book-proper = proper;
-        wanted = within-trans _ _ _ (or-within-l (o .pos) (o .neg)) order-within;
-        unwanted = within-trans _ _ _ (or-within-r (o .pos) (o .neg)) order-within;
-      }
-
-  -- and has at most n clauses
-  order-few : length (units o) ≤ n
-  order-few =
-      omega (
-        arith,
-        length-units o,
-        length-unitsOf true (o .pos),
-        length-unitsOf false (o .neg),
-        ones-disjoint _ _ order-apart,
-        ones-within _ _ order-within,
-        ones-firstOf n,
-      )
-
 -- ---- the bytes and the order
 
 -- bytes that are refused are refused with every order
-pub admit-refused : (bytes : List ℕ) (o : Assumptions) (k : ℕ) → refused k ≡ read bytes → refused k ≡ admit bytes o
+pub admit-refused : (bytes : List ℕ) (o : Order) (k : ℕ) → refused k ≡ read bytes → refused k ≡ admit bytes o
 unfolding read admit admitRows
 admit-refused bytes o k e =
     refused-by (firstRow (admitRows bytes o)) (varsIn bytes) k (rulesIn bytes)
     (first-among (bookRows bytes) (orderRows (varsIn bytes) o) k (judged-refused (firstRow (bookRows bytes)) (varsIn bytes) k (rulesIn bytes) (sym e)))
 
 -- and with a book the order decides
-pub admit-book : (bytes : List ℕ) (o : Assumptions) (n : ℕ) (cs : List Clause) → book n cs ≡ read bytes
+pub admit-book : (bytes : List ℕ) (o : Order) (n : ℕ) (cs : List Clause) → book n cs ≡ read bytes
     → readOrder n cs o ≡ admit bytes o
 unfolding read admit admitRows
 admit-book bytes o n cs e =
@@ -202,17 +153,17 @@ table-book n m t n′ cs e =
       };
     })
 
--- a book and an order that were admitted: an input of the steps, with at most as many order clauses as variables
-pub record Admitted (bytes : List ℕ) (o : Assumptions) (n : ℕ) (cs : List Clause) : Type 0 where
+-- a book and an order that were admitted: with the order completed an input of the steps, with at most as many order clauses as variables
+pub record Admitted (bytes : List ℕ) (o : Order) (n : ℕ) (cs : List Clause) : Type 0 where
   pub vars-are : varsIn bytes ≡ n
   pub clauses-are : rulesIn bytes ≡ cs
   pub no-row : firstRow (admitRows bytes o) ≡ none
   pub well-formed : WellFormed n cs
-  pub input : Input n cs o
-  pub few : length (units o) ≤ n
+  pub input : Input n cs (complete o)
+  pub few : length (units (complete o)) ≤ n
 
 -- where no row holds, the book in the bytes is admitted
-pub none-admitted : (bytes : List ℕ) (o : Assumptions) → firstRow (admitRows bytes o) ≡ none → Admitted bytes o (varsIn bytes) (rulesIn bytes)
+pub none-admitted : (bytes : List ℕ) (o : Order) → firstRow (admitRows bytes o) ≡ none → Admitted bytes o (varsIn bytes) (rulesIn bytes)
 unfolding admitRows
 none-admitted bytes o e =
     let book-rows = none-among (bookRows bytes) (orderRows (varsIn bytes) o) e in
@@ -228,13 +179,21 @@ none-admitted bytes o e =
     }
 
 -- `admit` answers with a book
-pub admitted-book : (bytes : List ℕ) (o : Assumptions) (n : ℕ) (cs : List Clause) → book n cs ≡ admit bytes o → Admitted bytes o n cs
+pub admitted-book : (bytes : List ℕ) (o : Order) (n : ℕ) (cs : List Clause) → book n cs ≡ admit bytes o → Admitted bytes o n cs
 unfolding admit
 admitted-book bytes o n cs e =
     let j = judged-book (firstRow (admitRows bytes o)) (varsIn bytes) n (rulesIn bytes) cs (sym e) in
     said (Admitted bytes o) (varsIn bytes) n (rulesIn bytes) cs (j .1) (j .2) (none-admitted bytes o (j .0))
 
 -- `admit` answers with a refusal
-pub admitted-row : (bytes : List ℕ) (o : Assumptions) (k : ℕ) → refused k ≡ admit bytes o → firstRow (admitRows bytes o) ≡ some k
+pub admitted-row : (bytes : List ℕ) (o : Order) (k : ℕ) → refused k ≡ admit bytes o → firstRow (admitRows bytes o) ≡ some k
 unfolding admit
 admitted-row bytes o k e = judged-refused (firstRow (admitRows bytes o)) (varsIn bytes) k (rulesIn bytes) (sym e)
+
+-- whether no row holds goes by the completed order
+pub same-admitted : (bytes : List ℕ) (o o′ : Order) → complete o ≡ complete o′ → firstRow (admitRows bytes o) ≡ none → firstRow (admitRows bytes o′) ≡ none
+unfolding admitRows
+same-admitted bytes o o′ same e =
+    let book-rows = none-among (bookRows bytes) (orderRows (varsIn bytes) o) e in
+    let order-rows = sym (first-after (bookRows bytes) (orderRows (varsIn bytes) o) book-rows) ∙ e in
+    first-after (bookRows bytes) (orderRows (varsIn bytes) o′) book-rows ∙ same-passes (varsIn bytes) o o′ same order-rows

@@ -4,8 +4,9 @@ pub mod Tests
 pub mod Conditions
 pub mod Bytes
 pub mod Readings
+pub mod UnitClauses
+pub mod Orders
 pub mod Accepted
-pub mod Units
 pub mod Placed
 pub mod Putting
 pub mod Encoding

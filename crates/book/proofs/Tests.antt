@@ -8,7 +8,7 @@ use borrow.Author.Tests.{ltb-false, lt-ltb, le-ltb, not-false}
 use lib.Dec.{ltb}
 use Rattle.words.specs.Words.{meets}
 use Rattle.steps.specs.Clause.{Clause}
-use Rattle.steps.specs.Run.{Assumptions}
+use Rattle.order.specs.Order.{Order}
 use Rattle.book.specs.Limits.{maxVars, maxClauses}
 use Rattle.book.specs.Refusals.{Row, row, firstRow, above, sizeRows, ruleRows, orderRows}
 use Rattle.book.proofs.Refusals.{first-none, first-here, first-later, none-here, none-later}
@@ -88,27 +88,53 @@ module _ (n : ℕ) (c : Clause) (cs : List Clause) where
   unfolding ruleRows
   rule-both h k = first-later (five n c) (six c ∷ ruleRows n cs) h ∙ first-here (six c) (ruleRows n cs) k
 
--- ---- 7 and 8
+-- ---- 7, 8 and 12
 
--- the rows of an order
-abbrev pub seven : ℕ → Assumptions → Row
-seven n o = row 7 (above n (o .pos) (o .neg))
+-- an order whose options are among the first n, and none both wanted and unwanted
+pub record Ordered (n : ℕ) (o : Order) : Type 0 where
+  pub below : above n (o .wanted) (o .unwanted) ≡ false
+  pub apart : meets (o .wanted) (o .unwanted) ≡ false
+  pub standard : above n (o .standard) 0 ≡ false
 
-abbrev pub eight : Assumptions → Row
-eight o = row 8 (meets (o .pos) (o .neg))
+module _ (n : ℕ) (o : Order) where
+  -- the rows of an order
+  abbrev seven : Row
+  seven = row 7 (above n (o .wanted) (o .unwanted))
 
-module _ (n : ℕ) (o : Assumptions) where
+  abbrev eight : Row
+  eight = row 8 (meets (o .wanted) (o .unwanted))
+
+  abbrev twelve : Row
+  twelve = row 12 (above n (o .standard) 0)
+
   -- 7
-  pub order-above : above n (o .pos) (o .neg) ≡ true → firstRow (orderRows n o) ≡ some 7
+  pub order-above : above n (o .wanted) (o .unwanted) ≡ true → firstRow (orderRows n o) ≡ some 7
   unfolding orderRows
-  order-above h = first-here (seven n o) (eight o ∷ []) h
+  order-above h = first-here seven (eight ∷ twelve ∷ []) h
 
   -- 8
-  pub order-both : above n (o .pos) (o .neg) ≡ false → meets (o .pos) (o .neg) ≡ true → firstRow (orderRows n o) ≡ some 8
+  pub order-both : above n (o .wanted) (o .unwanted) ≡ false → meets (o .wanted) (o .unwanted) ≡ true → firstRow (orderRows n o) ≡ some 8
   unfolding orderRows
-  order-both h k = first-later (seven n o) (eight o ∷ []) h ∙ first-here (eight o) [] k
+  order-both h k = first-later seven (eight ∷ twelve ∷ []) h ∙ first-here eight (twelve ∷ []) k
 
-  -- neither
-  pub order-passed : above n (o .pos) (o .neg) ≡ false → meets (o .pos) (o .neg) ≡ false → firstRow (orderRows n o) ≡ none
+  -- 12
+  pub order-standard : above n (o .wanted) (o .unwanted) ≡ false → meets (o .wanted) (o .unwanted) ≡ false → above n (o .standard) 0 ≡ true →
+      firstRow (orderRows n o) ≡ some 12
   unfolding orderRows
-  order-passed h k = first-later (seven n o) (eight o ∷ []) h ∙ first-later (eight o) [] k ∙ first-none
+  order-standard h k l = first-later seven (eight ∷ twelve ∷ []) h ∙ first-later eight (twelve ∷ []) k ∙ first-here twelve [] l
+
+  -- none of them
+  pub order-passed : Ordered n o → firstRow (orderRows n o) ≡ none
+  unfolding orderRows
+  order-passed p =
+      first-later seven (eight ∷ twelve ∷ []) (p .below) ∙ first-later eight (twelve ∷ []) (p .apart) ∙ first-later twelve [] (p .standard) ∙ first-none
+
+  pub none-ordered : firstRow (orderRows n o) ≡ none → Ordered n o
+  unfolding orderRows
+  none-ordered e =
+      let e₈ = none-later seven (eight ∷ twelve ∷ []) e in
+      record {
+        below = none-here seven (eight ∷ twelve ∷ []) e;
+        apart = none-here eight (twelve ∷ []) e₈;
+        standard = none-here twelve [] (none-later eight (twelve ∷ []) e₈);
+      }

@@ -8,7 +8,7 @@ use Prim.Native.Nat.{ℕ, _≤_, _<_}
 use lib.ListN.{length}
 use Rattle.words.specs.Words.{has}
 use Rattle.steps.specs.Clause.{Clause}
-use Rattle.steps.specs.Run.{Assumptions}
+use Rattle.order.specs.Order.{Order}
 use Rattle.book.specs.Limits.{maxVars, maxClauses}
 use Rattle.book.specs.Bytes.{bookBytes, varsIn, countIn, rulesIn}
 use Rattle.book.specs.Refusals.{Row}
@@ -42,6 +42,10 @@ Decides (r ∷ rs) (a ∷ rest) = (r .number ≡ a .number) × ((r .holds ≡ tr
 abbrev pub NamesAbove : ℕ → ℕ → ℕ → Type 0
 NamesAbove n p q = (k : ℕ) × (n ≤ k) × ((has p k || has q k) ≡ true)
 
+-- a word has an option above n
+abbrev pub HasAbove : ℕ → ℕ → Type 0
+HasAbove n w = (k : ℕ) × (n ≤ k) × (has w k ≡ true)
+
 -- one option is in both words
 abbrev pub InBoth : ℕ → ℕ → Type 0
 InBoth p q = (k : ℕ) × (has p k ≡ true) × (has q k ≡ true)
@@ -58,10 +62,11 @@ bookConditions bytes =
     condition 1 (length bytes < 3) ∷ condition 2 (maxVars < varsIn bytes) ∷ condition 3 (maxClauses < countIn bytes) ∷
     condition 4 (length bytes ≢ bookBytes (countIn bytes)) ∷ ruleConditions (varsIn bytes) (rulesIn bytes)
 
--- 7 and 8
-abbrev pub orderConditions : ℕ → Assumptions → List Condition
-orderConditions n o = condition 7 (NamesAbove n (o .pos) (o .neg)) ∷ condition 8 (InBoth (o .pos) (o .neg)) ∷ []
+-- 7, 8 and 12, which is tested right after 8
+abbrev pub orderConditions : ℕ → Order → List Condition
+orderConditions n o =
+    condition 7 (NamesAbove n (o .wanted) (o .unwanted)) ∷ condition 8 (InBoth (o .wanted) (o .unwanted)) ∷ condition 12 (HasAbove n (o .standard)) ∷ []
 
--- 1 to 8
-abbrev pub admitConditions : List ℕ → Assumptions → List Condition
+-- 1 to 8 and 12
+abbrev pub admitConditions : List ℕ → Order → List Condition
 admitConditions bytes o = bookConditions bytes ++ orderConditions (varsIn bytes) o

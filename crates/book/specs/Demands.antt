@@ -4,7 +4,7 @@ use mathlib.Core.List.{List}
 use mathlib.Core.Logic.{_↔_}
 use Prim.Native.Nat.{ℕ}
 use Rattle.steps.specs.Clause.{Clause}
-use Rattle.steps.specs.Run.{Assumptions}
+use Rattle.order.specs.Order.{Order}
 use Rattle.book.specs.Bytes.{AllBytes, varsIn, rulesIn, encode}
 use Rattle.book.specs.Refusals.{admitRows}
 use Rattle.book.specs.Reading.{Reading.book, Reading.refused, read, admit, WellFormed}
@@ -14,16 +14,16 @@ use Rattle.book.specs.Conditions.{First, NoRow, Decides, admitConditions
 
 -- each row is tested for its condition, which is in words of membership and number (`Conditions`)
 abbrev pub RowsDecide : Type 0
-RowsDecide = (bytes : List ℕ) (o : Assumptions) → Decides (admitRows bytes o) (admitConditions bytes o)
+RowsDecide = (bytes : List ℕ) (o : Order) → Decides (admitRows bytes o) (admitConditions bytes o)
 
 -- a refusal has the number of the first condition that holds, and each first condition that holds is refused
 abbrev pub FirstRefused : Type 0
-FirstRefused = (bytes : List ℕ) (o : Assumptions) (k : ℕ) → (admit bytes o ≡ refused k) ↔ First (admitConditions bytes o) k
+FirstRefused = (bytes : List ℕ) (o : Order) (k : ℕ) → (admit bytes o ≡ refused k) ↔ First (admitConditions bytes o) k
 
 -- where no condition holds, and only there, there is a book, and it is the one in the bytes
 abbrev pub FaultlessBook : Type 0
 FaultlessBook =
-    (bytes : List ℕ) (o : Assumptions) (n : ℕ) (cs : List Clause) →
+    (bytes : List ℕ) (o : Order) (n : ℕ) (cs : List Clause) →
     (admit bytes o ≡ book n cs) ↔ (NoRow (admitConditions bytes o) × (n ≡ varsIn bytes) × (cs ≡ rulesIn bytes))
 
 -- ---- reading and writing

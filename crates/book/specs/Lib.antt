@@ -7,5 +7,5 @@ pub mod Reading
 pub mod Conditions
 pub mod Values
 pub mod Written
-pub mod Order
+pub mod Units
 pub mod Demands

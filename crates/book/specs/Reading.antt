@@ -5,8 +5,8 @@ use Prim.Native.Nat.{ℕ, _≤_}
 use lib.Dec.{eqb}
 use lib.ListN.{length}
 use Rattle.steps.specs.Clause.{Clause}
-use Rattle.steps.specs.Run.{Assumptions}
 use Rattle.steps.specs.Shape.{AllProper}
+use Rattle.order.specs.Order.{Order}
 use Rattle.rows.specs.Rows.{clauseWords, clauses}
 use Rattle.book.specs.Limits.{maxVars, maxClauses}
 use Rattle.book.specs.Bytes.{varsIn, rulesIn}
@@ -27,15 +27,15 @@ unfoldable pub read : List ℕ → Reading
 read bytes = judged (firstRow (bookRows bytes)) (varsIn bytes) (rulesIn bytes)
 
 -- book bytes, and an order to the book
-unfoldable pub admit : List ℕ → Assumptions → Reading
+unfoldable pub admit : List ℕ → Order → Reading
 admit bytes o = judged (firstRow (admitRows bytes o)) (varsIn bytes) (rulesIn bytes)
 
 -- n variables and clauses, judged by 5 and 6
 abbrev pub readRules : ℕ → List Clause → Reading
 readRules n cs = judged (firstRow (ruleRows n cs)) n cs
 
--- a book, judged with an order by 7 and 8
-abbrev pub readOrder : ℕ → List Clause → Assumptions → Reading
+-- a book, judged with an order by 7, 8 and 12
+abbrev pub readOrder : ℕ → List Clause → Order → Reading
 readOrder n cs o = judged (firstRow (orderRows n o)) n cs
 
 -- sizes, and a table of the clauses and nothing else

@@ -8,7 +8,7 @@ use lib.Dec.{ltb, eqb}
 use lib.ListN.{length}
 use Rattle.words.specs.Words.{isZero, minus, meets, firstOf}
 use Rattle.steps.specs.Clause.{Clause}
-use Rattle.steps.specs.Run.{Assumptions}
+use Rattle.order.specs.Order.{Order}
 use Rattle.book.specs.Limits.{maxVars, maxClauses}
 use Rattle.book.specs.Bytes.{bookBytes, varsIn, countIn, rulesIn}
 
@@ -44,10 +44,10 @@ bookRows bytes =
     row 1 (ltb (length bytes) 3) ∷ sizeRows (varsIn bytes) (countIn bytes) (eqb (length bytes) (bookBytes (countIn bytes))) ++
     ruleRows (varsIn bytes) (rulesIn bytes)
 
--- 7 and 8: the order names an option above n, it has one option as wanted and as unwanted
-unfoldable pub orderRows : ℕ → Assumptions → List Row
-orderRows n o = row 7 (above n (o .pos) (o .neg)) ∷ row 8 (meets (o .pos) (o .neg)) ∷ []
+-- 7, 8 and 12: the order wants or does not want an option above n, it has one option as wanted and as unwanted, a standard option is above n
+unfoldable pub orderRows : ℕ → Order → List Row
+orderRows n o = row 7 (above n (o .wanted) (o .unwanted)) ∷ row 8 (meets (o .wanted) (o .unwanted)) ∷ row 12 (above n (o .standard) 0) ∷ []
 
--- 1 to 8: book bytes and an order
-unfoldable pub admitRows : List ℕ → Assumptions → List Row
+-- 1 to 8 and 12: book bytes and an order
+unfoldable pub admitRows : List ℕ → Order → List Row
 admitRows bytes o = bookRows bytes ++ orderRows (varsIn bytes) o

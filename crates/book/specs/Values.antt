@@ -1,15 +1,10 @@
 -- The structs and enums of this crate as values of the specs.
 use mathlib.Core.List.{List}
 use Prim.Native.Nat.{ℕ}
-use Rattle.steps.specs.Run as run
 use Rattle.rows.specs.Rows.{clauses}
 use Rattle.book.specs.Reading as reading
-use Rattle.book.specs.declared.Assumptions.{Assumptions}
 use Rattle.book.specs.declared.Reading.{Reading}
 use Rattle.book.specs.declared.Reading.the-variants.{Book, Refused}
-
-abbrev pub assumptionsOf : Assumptions → run.Assumptions
-assumptionsOf o = record { pos = o .pos; neg = o .neg }
 
 -- an answer, with the table whose first clauses are the book's
 abbrev pub readingOf : Reading → List ℕ → reading.Reading

@@ -3,30 +3,27 @@ ghost use mathlib.Core.Path.{_≡_};
 ghost use Prim.Native.Nat.{_+_, _≤_};
 ghost use lib.ListN.{length};
 ghost use Rattle.steps.specs.Run.{units, given};
+ghost use Rattle.order.specs.Values.{assumptionsOf, orderOf};
 ghost use Rattle.rows.specs.Rows.{clauseWords, clauses as Clauses};
 ghost use Rattle.book.specs.Limits.{maxClauses};
 ghost use Rattle.book.specs.Reading.{read as Read, admit as Admit, readTable};
-ghost use Rattle.book.specs.Values.{assumptionsOf, readingOf};
+ghost use Rattle.book.specs.Values.{readingOf};
 ghost use Rattle.book.specs.Written.{writtenOf, writtenTo};
 
 mod encode;
 mod judge;
-mod order;
 mod read;
+mod units;
 mod word;
 
+use order::Assumptions;
+use order::Order;
 pub use word::word_at;
 
 // A book, without its clauses: how many variables (n) and how many clauses (m) it has. The clauses are the first of a work table.
 pub struct Book {
     pub vars: u32,
     pub clauses: usize,
-}
-
-// An order: the wanted options, and the unwanted ones.
-pub struct Assumptions {
-    pub pos: u64,
-    pub neg: u64,
 }
 
 // What reading gives: the sizes of the book, or the number of the refusal.
@@ -77,13 +74,13 @@ impl Book {
     }
 
     // What bytes and an order to them are. Refusals of the bytes come before those of the order.
-    pub fn admit(bytes: &[u8], o: Assumptions, t: &mut [u64]) -> Reading
+    pub fn admit(bytes: &[u8], o: Order, t: &mut [u64]) -> Reading
         requires { ⌜ clauseWords maxClauses ≤ length (now t) ⌝ }
-        ensures { λ r. ⌜ readingOf r (now (t .exit)) ≡ Admit (now (bytes .entry)) (assumptionsOf o) ⌝ }
+        ensures { λ r. ⌜ readingOf r (now (t .exit)) ≡ Admit (now (bytes .entry)) (orderOf o) ⌝ }
     {
         match Self::from_bytes(bytes, t) {
             Reading::Refused(number) => Reading::Refused(number),
-            Reading::Book(b) => order::judge_order(b, o),
+            Reading::Book(b) => judge::judge_order(b, o),
         }
     }
 
@@ -103,14 +100,14 @@ impl Book {
         judge::judge_rules(Book { vars, clauses }, t)
     }
 
-    // Puts the order's clauses into the table after the book's, and gives the number of clauses that it then has.
+    // Puts the clauses of a completed order into the table after the book's, and gives the number of clauses that it then has.
     // An order that was admitted has no more clauses than the book has variables.
     pub fn assume(self, o: Assumptions, t: &mut [u64]) -> usize
         requires { ⌜ clauseWords (self .clauses + length (units (assumptionsOf o))) ≤ length (now t) ⌝ }
         ensures { λ r. ⌜ Clauses (now (t .exit)) r ≡ given (Clauses (now (t .entry)) (self .clauses)) (assumptionsOf o) ⌝ }
     {
-        let count = order::add_units(true, o.pos, self.clauses, t);
-        order::add_units(false, o.neg, count, t)
+        let count = units::add_units(true, o.pos, self.clauses, t);
+        units::add_units(false, o.neg, count, t)
     }
 
     // Writes the book's bytes to the beginning of a lent buffer. A table that is no book of these sizes, and a buffer that is

@@ -2,9 +2,8 @@
 -- records than options; and the result for it is the check's, since it passed every row before 9.
 use mathlib.Core.Path.{_≡_, refl, sym, ap, ap₂, subst, subst⁻¹, _∙_}
 use mathlib.Core.Bool.{Bool, true, false}
-use mathlib.Core.List.{List, [], _∷_, _++_}
-use mathlib.Core.Option.{some, none}
-use Prim.Native.Nat.{ℕ, _+_, _*_, _≤_}
+use mathlib.Core.List.{List, []}
+use Prim.Native.Nat.{ℕ, _+_, _≤_}
 use native.Mathlib.Omega.{arith}
 use lib.ListN.{length, length-append}
 use Rattle.words.proofs.Truth.{when-true, when-false}
@@ -15,20 +14,19 @@ use Rattle.steps.specs.Shape.{AllProper}
 use Rattle.steps.proofs.ShapeStart.{given-proper}
 use Rattle.steps.proofs.Allowances.{stops-spent}
 use Rattle.steps.proofs.Soundness.{demand2}
-use Rattle.answer.specs.Answer.{tallyOf, tallyIn, ofOutcome}
+use Rattle.answer.specs.Answer.{tallyOf, tallyIn}
 use Rattle.answer.specs.declared.Tally.{Tally}
 use Rattle.answer.specs.declared.Answer.{Answer}
 use Rattle.answer.proofs.Ending.{tally-told}
+use Rattle.order.specs.Order.{Order, complete}
 use Rattle.book.specs.Limits.{maxVars, maxClauses, maxDerived}
-use Rattle.book.specs.Bytes.{varsIn, rulesIn}
-use Rattle.book.specs.Refusals.{row, firstRow, admitRows}
+use Rattle.book.specs.Refusals.{row, admitRows}
 use Rattle.book.specs.Reading.{Reading.book, Reading.refused as unread, admit}
 use Rattle.book.specs.declared.Book.{Book}
 use Rattle.book.proofs.Refusals.{first-here, first-among, first-after}
 use Rattle.book.proofs.Accepted.{admitted-book, admitted-row}
 use Rattle.rows.specs.Rows.{clauseWords, clauses, clausesFrom, sequentWords, sequents}
 use Rattle.rows.proofs.Tables.{clauses-length}
-use Rattle.search.specs.Values.{Handed}
 use Rattle.contract.specs.Check.{Lengths, tablesFault, tableRows, Result, Result.refused, Result.ran, check}
 use Rattle.contract.specs.Filled.{Tables, lengths, answerOf, filledWith, filled, Checked}
 use Rattle.contract.specs.Demands.{Permitted}
@@ -139,8 +137,8 @@ tables-refused n cs o allowance before r fault is =
 
 -- ---- the check
 
-module _ (bytes : List ℕ) (o : Assumptions) (allowance : ℕ) where
-  -- 1 to 8
+module _ (bytes : List ℕ) (o : Order) (allowance : ℕ) where
+  -- 1 to 8 and 12
   pub refused-checked : (k : ℕ) (before : Tables) (r : Answer) → unread k ≡ admit bytes o → r ≡ answerOf (refused k) → Checked bytes o allowance before r before
   unfolding filled
   refused-checked k before r e is =
@@ -148,10 +146,10 @@ module _ (bytes : List ℕ) (o : Assumptions) (allowance : ℕ) where
       record { answer = is ∙ ap answerOf (sym first); tables = ap (λ (x : Result). filled x before) (sym first) }
 
   -- 9 and the run
-  result-is : (n : ℕ) (cs : List Clause) (l : Lengths) → book n cs ≡ admit bytes o → resultOf n cs o allowance l ≡ check bytes o allowance l
+  result-is : (n : ℕ) (cs : List Clause) (l : Lengths) → book n cs ≡ admit bytes o → resultOf n cs (complete o) allowance l ≡ check bytes o allowance l
   result-is n cs l e = go (tablesFault l) refl
     where
-      go : (x : Bool) → tablesFault l ≡ x → resultOf n cs o allowance l ≡ check bytes o allowance l
+      go : (x : Bool) → tablesFault l ≡ x → resultOf n cs (complete o) allowance l ≡ check bytes o allowance l
       go true f =
           let a = admitted-book bytes o n cs e in
           when-true (tablesFault l) _ _ f
@@ -159,11 +157,24 @@ module _ (bytes : List ℕ) (o : Assumptions) (allowance : ℕ) where
       go false f =
           let a = admitted-book bytes o n cs e in
           when-false (tablesFault l) _ _ f
-          ∙ ap₂ (λ (m : ℕ) (ds : List Clause). ran (run m ds o allowance (l .pos))) (sym (a .vars-are)) (sym (a .clauses-are))
+          ∙ ap₂ (λ (m : ℕ) (ds : List Clause). ran (run m ds (complete o) allowance (l .pos))) (sym (a .vars-are)) (sym (a .clauses-are))
           ∙ sym (admitted-ran bytes o allowance l (a .no-row) (passing l f))
 
-  pub filled-checked : (n : ℕ) (cs : List Clause) (before : Tables) (r : Answer) (after : Tables) → book n cs ≡ admit bytes o →
-      Promised n cs o allowance before r after → Checked bytes o allowance before r after
-  filled-checked n cs before r after e f =
-      let same = result-is n cs (lengths before) e in
-      record { answer = f .answer ∙ ap answerOf same; tables = f .tables ∙ ap (λ (x : Result). filled x before) same }
+  -- a book that was admitted, with a, the completed order
+  module _ (a : Assumptions) (completed : a ≡ complete o) where
+    pub admitted-workable : (b : Book) (t : List ℕ) → book (b .vars) (clauses t (b .clauses)) ≡ admit bytes o →
+        clauseWords (maxClauses + maxVars + maxDerived) ≤ length t → Workable b a t
+    admitted-workable b t e room =
+        let accepted = admitted-book bytes o (b .vars) (clauses t (b .clauses)) e in
+        subst⁻¹
+        (λ (x : Assumptions). Workable b x t)
+        completed
+        (record { well-formed = accepted .well-formed; input = accepted .input; order-few = accepted .few; room = room })
+
+    pub filled-checked : (n : ℕ) (cs : List Clause) (before : Tables) (r : Answer) (after : Tables) → book n cs ≡ admit bytes o →
+        Promised n cs a allowance before r after → Checked bytes o allowance before r after
+    filled-checked n cs before r after e f =
+        let same : resultOf n cs a allowance (lengths before) ≡ check bytes o allowance (lengths before) =
+        ap (λ (x : Assumptions). resultOf n cs x allowance (lengths before)) completed ∙ result-is n cs (lengths before) e
+        in
+        record { answer = f .answer ∙ ap answerOf same; tables = f .tables ∙ ap (λ (x : Result). filled x before) same }

@@ -1,11 +1,10 @@
-// Deciding a book that was admitted with its order, in work tables.
-ghost use mathlib.Core.Path.{_≡_};
+// Deciding a book that was admitted with its order, which is completed, in work tables.
 ghost use Rattle.rows.specs.Rows.{clauses};
-ghost use Rattle.book.specs.Values.{assumptionsOf};
+ghost use Rattle.order.specs.Values.{assumptionsOf};
 ghost use Rattle.checker.specs.Work.{Runnable, HasRun};
 use answer::Answer;
-use book::Assumptions;
 use book::Book;
+use order::Assumptions;
 use rows::state::Env;
 use search::run;
 

@@ -1,13 +1,13 @@
 // The entry point: book bytes, an order, an allowance and lent tables in; a verdict, a refusal or a stop out, with the tables filled.
-ghost use mathlib.Core.Path.{_≡_};
 ghost use Rattle.rows.specs.Rows.{clauses};
-ghost use Rattle.book.specs.Values.{assumptionsOf};
+ghost use Rattle.order.specs.Values.{orderOf, assumptionsOf};
 ghost use Rattle.contract.specs.Filled.{lent, Checked};
 ghost use Rattle.checker.specs.Work.{Workable, Promised};
 use answer::Answer;
-use book::Assumptions;
 use book::Book;
 use book::Reading;
+use order::Assumptions;
+use order::Order;
 use rows::index;
 use rows::records;
 use rows::table;
@@ -19,7 +19,7 @@ mod tables;
 // those of `decided`, `trues` and `redundant`.
 pub fn check(
     book: &[u8],
-    o: Assumptions,
+    o: Order,
     allowance: u32,
     pos: &mut [u64],
     neg: &mut [u64],
@@ -27,18 +27,28 @@ pub fn check(
     trues: &mut [u64],
     redundant: &mut [u64],
 ) -> Answer
-    ensures { λ r. ⌜ Checked (now (book .entry)) (assumptionsOf o) allowance (lent (now (pos .entry)) (now (neg .entry)) (now (decided .entry)) (now (trues .entry)) (now (redundant .entry))) r (lent (now (pos .exit)) (now (neg .exit)) (now (decided .exit)) (now (trues .exit)) (now (redundant .exit))) ⌝ }
+    ensures { λ r. ⌜ Checked (now (book .entry)) (orderOf o) allowance (lent (now (pos .entry)) (now (neg .entry)) (now (decided .entry)) (now (trues .entry)) (now (redundant .entry))) r (lent (now (pos .exit)) (now (neg .exit)) (now (decided .exit)) (now (trues .exit)) (now (redundant .exit))) ⌝ }
 {
     let mut t = [0u64; table::WORDS
         * (Book::MAX_CLAUSES + (Book::MAX_VARS as usize) + Book::MAX_DERIVED)];
     let read = Book::admit(book, o, &mut t);
     match read {
         Reading::Refused(k) => Answer::Refused(k),
-        Reading::Book(b) => run_book(b, o, allowance, &mut t, pos, neg, decided, trues, redundant),
+        Reading::Book(b) => run_book(
+            b,
+            o.complete(),
+            allowance,
+            &mut t,
+            pos,
+            neg,
+            decided,
+            trues,
+            redundant,
+        ),
     }
 }
 
-// Runs a book that was admitted with its order, and whose clauses the work table holds, unless the lent tables are refused.
+// Runs a book that was admitted with its order, here completed, and whose clauses the work table holds, unless the lent tables are refused.
 fn run_book(
     b: Book,
     o: Assumptions,

@@ -1,24 +1,25 @@
 -- A check and its rows. Each row decides its condition, so the first row that holds is at the first condition that does; a check that was run passed every
 -- row, and whether it is run does not depend on the allowance, nor on the tables while they are permitted.
 use mathlib.Core.Path.{_≡_, refl, sym, ap, subst, _∙_}
-use mathlib.Core.Bool.{Bool, true, false, not, _||_}
+use mathlib.Core.Bool.{Bool, true, false, not}
 use mathlib.Core.List.{List, [], _∷_, _++_}
-use mathlib.Core.Logic.{_⊎_, inl, inr, ⊎-elim, _↔_}
+use mathlib.Core.Logic.{_⊎_, inl, inr}
 use mathlib.Core.Option.{Option, some, none}
 use Prim.Native.Nat.{ℕ, _≤_}
 use native.Mathlib.Omega.{arith}
 use borrow.Author.Tests.{eqb-true, eq-eqb, ltb-false, le-ltb, not-false}
 use lib.Dec.{eqb, ltb}
-use Rattle.words.proofs.Truth.{both-ways, clash, refuted, or-neither}
+use Rattle.words.proofs.Truth.{both-ways, clash, or-neither}
 use Rattle.steps.specs.Clause.{Clause}
-use Rattle.steps.specs.Run.{Assumptions, Outcome}
+use Rattle.steps.specs.Run.{Outcome}
+use Rattle.order.specs.Order.{Order}
 use Rattle.book.specs.Limits.{maxDerived, minRecords}
 use Rattle.book.specs.Bytes.{varsIn, rulesIn}
-use Rattle.book.specs.Refusals.{Row, row, firstRow, admitRows}
+use Rattle.book.specs.Refusals.{row, firstRow, admitRows}
 use Rattle.book.specs.Conditions.{Condition, condition, First, Decides, ruleConditions, bookConditions, orderConditions, admitConditions}
-use Rattle.book.proofs.Refusals.{first-none, first-here, first-later, none-here, first-among, first-after, none-among, decides-append, first-iff, none-iff}
+use Rattle.book.proofs.Refusals.{first-none, first-later, none-here, first-among, first-after, none-among, decides-append, first-iff, none-iff}
 use Rattle.book.proofs.Conditions.{rows-decide}
-use Rattle.contract.specs.Check.{Lengths, tablesFault, tableRows, checkRows, outcome, Result, Result.refused, Result.ran, resultBy, check}
+use Rattle.contract.specs.Check.{Lengths, tablesFault, tableRows, checkRows, outcome, Result.refused, Result.ran, resultBy, check}
 use Rattle.contract.specs.Demands.{Permitted, checkConditions, Refusals, Runs}
 
 -- ---- the tables
@@ -52,7 +53,7 @@ permitted-passes l p =
     ) refl
 
 -- row 9 decides its condition
-tables-decide : (l : Lengths) → Decides (tableRows l) (condition 9 (Permitted l → ⊥) ∷ [])
+pub tables-decide : (l : Lengths) → Decides (tableRows l) (condition 9 (Permitted l → ⊥) ∷ [])
 tables-decide l = (
   refl,
   (
@@ -67,12 +68,12 @@ tables-decide l = (
     go false e h = absurd (h (passing l e))
 
 -- every row of a check decides its condition
-rows-of-check : (bytes : List ℕ) (o : Assumptions) (l : Lengths) → Decides (checkRows bytes o l) (checkConditions bytes o l)
+rows-of-check : (bytes : List ℕ) (o : Order) (l : Lengths) → Decides (checkRows bytes o l) (checkConditions bytes o l)
 rows-of-check bytes o l = decides-append (admitRows bytes o) (tableRows l) (admitConditions bytes o) _ (rows-decide bytes o) (tables-decide l)
 
 -- ---- the check
 
-module _ (bytes : List ℕ) (o : Assumptions) (allowance : ℕ) (l : Lengths) where
+module _ (bytes : List ℕ) (o : Order) (allowance : ℕ) (l : Lengths) where
   -- a check by its first row
   pub check-refused : (k : ℕ) → firstRow (checkRows bytes o l) ≡ some k → check bytes o allowance l ≡ refused k
   unfolding check
@@ -83,14 +84,14 @@ module _ (bytes : List ℕ) (o : Assumptions) (allowance : ℕ) (l : Lengths) wh
   check-ran e = ap (resultBy bytes o allowance l) e
 
   -- and the first row of a check
-  refused-row : (k : ℕ) → check bytes o allowance l ≡ refused k → firstRow (checkRows bytes o l) ≡ some k
+  pub refused-row : (k : ℕ) → check bytes o allowance l ≡ refused k → firstRow (checkRows bytes o l) ≡ some k
   refused-row k e = go (firstRow (checkRows bytes o l)) refl
     where
       go : (x : Option ℕ) → firstRow (checkRows bytes o l) ≡ x → x ≡ some k
       go (some j) f = let same : refused j ≡ refused k = sym (check-refused j f) ∙ e in cc
       go none f = let other : ran (outcome bytes o allowance l) ≡ refused k = sym (check-ran f) ∙ e in clash cc
 
-  ran-row : (r : Outcome) → check bytes o allowance l ≡ ran r → (firstRow (checkRows bytes o l) ≡ none) × (r ≡ outcome bytes o allowance l)
+  pub ran-row : (r : Outcome) → check bytes o allowance l ≡ ran r → (firstRow (checkRows bytes o l) ≡ none) × (r ≡ outcome bytes o allowance l)
   ran-row r e = go (firstRow (checkRows bytes o l)) refl
     where
       go : (x : Option ℕ) → firstRow (checkRows bytes o l) ≡ x → (x ≡ none) × (r ≡ outcome bytes o allowance l)
@@ -111,12 +112,12 @@ runs bytes o allowance l r =
 
 -- ---- what a check that was run has passed
 
-pub record Ran (bytes : List ℕ) (o : Assumptions) (allowance : ℕ) (l : Lengths) (r : Outcome) : Type 0 where
+pub record Ran (bytes : List ℕ) (o : Order) (allowance : ℕ) (l : Lengths) (r : Outcome) : Type 0 where
   pub admitted : firstRow (admitRows bytes o) ≡ none
   pub permitted : Permitted l
   pub by-the-steps : r ≡ outcome bytes o allowance l
 
-pub ran-passed : (bytes : List ℕ) (o : Assumptions) (allowance : ℕ) (l : Lengths) (r : Outcome) → check bytes o allowance l ≡ ran r → Ran bytes o allowance l r
+pub ran-passed : (bytes : List ℕ) (o : Order) (allowance : ℕ) (l : Lengths) (r : Outcome) → check bytes o allowance l ≡ ran r → Ran bytes o allowance l r
 ran-passed bytes o allowance l r e =
     let h = ran-row bytes o allowance l r e in
     let admitted = none-among (admitRows bytes o) (tableRows l) (h .0) in
@@ -128,7 +129,7 @@ ran-passed bytes o allowance l r e =
 
 -- an admitted book and order run with all permitted tables
 pub admitted-ran :
-    (bytes : List ℕ) (o : Assumptions) (allowance : ℕ) (l : Lengths) → firstRow (admitRows bytes o) ≡ none → Permitted l →
+    (bytes : List ℕ) (o : Order) (allowance : ℕ) (l : Lengths) → firstRow (admitRows bytes o) ≡ none → Permitted l →
     check bytes o allowance l ≡ ran (outcome bytes o allowance l)
 admitted-ran bytes o allowance l a p =
     check-ran bytes o allowance l
@@ -136,7 +137,7 @@ admitted-ran bytes o allowance l a p =
 
 -- permitted tables with as many places give the same result
 pub same-check :
-    (bytes : List ℕ) (o : Assumptions) (allowance : ℕ) (l l′ : Lengths) → Permitted l → Permitted l′ → l .pos ≡ l′ .pos →
+    (bytes : List ℕ) (o : Order) (allowance : ℕ) (l l′ : Lengths) → Permitted l → Permitted l′ → l .pos ≡ l′ .pos →
     check bytes o allowance l ≡ check bytes o allowance l′
 same-check bytes o allowance l l′ p p′ e = go (firstRow (admitRows bytes o)) refl
   where
@@ -153,31 +154,43 @@ same-check bytes o allowance l l′ p p′ e = go (firstRow (admitRows bytes o))
 
 -- ---- the numbers of refusals
 
--- every number is from 1 to 9
+-- a number from 1 to 9, or 12
+abbrev Numbered : ℕ → Type 0
+Numbered k = ((1 ≤ k) × (k ≤ 9)) ⊎ (k ≡ 12)
+
+up-to-nine : {k : ℕ} → 1 ≤ k → k ≤ 9 → Numbered k
+up-to-nine l h = inl (l, h)
+
+-- every number is one
 abbrev AllNumbered : List Condition → Type 0
 AllNumbered [] = Unit {0}
-AllNumbered (a ∷ cs) = (1 ≤ a .number) × (a .number ≤ 9) × AllNumbered cs
+AllNumbered (a ∷ cs) = Numbered (a .number) × AllNumbered cs
 
 -- so is that of the first condition that holds
-first-numbered : (cs : List Condition) (k : ℕ) → AllNumbered cs → First cs k → (1 ≤ k) × (k ≤ 9)
+first-numbered : (cs : List Condition) (k : ℕ) → AllNumbered cs → First cs k → Numbered k
 first-numbered [] k h f = absurd f
-first-numbered (a ∷ cs) k h (inl here) = subst (λ (x : ℕ). (1 ≤ x) × (x ≤ 9)) (here .1) (h .0, h .1)
-first-numbered (a ∷ cs) k h (inr later) = first-numbered cs k (h .2) (later .1)
+first-numbered (a ∷ cs) k h (inl here) = subst Numbered (here .1) (h .0)
+first-numbered (a ∷ cs) k h (inr later) = first-numbered cs k (h .1) (later .1)
 
 append-numbered : (cs ds : List Condition) → AllNumbered cs → AllNumbered ds → AllNumbered (cs ++ ds)
 append-numbered [] ds h g = g
-append-numbered (a ∷ cs) ds h g = (h .0, h .1, append-numbered cs ds (h .2) g)
+append-numbered (a ∷ cs) ds h g = (h .0, append-numbered cs ds (h .1) g)
 
 rules-numbered : (n : ℕ) (rules : List Clause) → AllNumbered (ruleConditions n rules)
 rules-numbered n [] = tt
-rules-numbered n (c ∷ rules) = (omega arith, omega arith, (omega arith, omega arith, rules-numbered n rules))
+rules-numbered n (c ∷ rules) = (up-to-nine (omega arith) (omega arith), (up-to-nine (omega arith) (omega arith), rules-numbered n rules))
 
 -- the number of a refusal
-pub numbered : (bytes : List ℕ) (o : Assumptions) (l : Lengths) (k : ℕ) → First (checkConditions bytes o l) k → (1 ≤ k) × (k ≤ 9)
+pub numbered : (bytes : List ℕ) (o : Order) (l : Lengths) (k : ℕ) → First (checkConditions bytes o l) k → ((1 ≤ k) × (k ≤ 9)) ⊎ (k ≡ 12)
 numbered bytes o l k =
     first-numbered (checkConditions bytes o l) k
     (append-numbered (admitConditions bytes o) _
-    (append-numbered (bookConditions bytes) (orderConditions (varsIn bytes) o)
-    (omega arith, omega arith, (omega arith, omega arith, (omega arith, omega arith, (omega arith, omega arith, rules-numbered (varsIn bytes) (rulesIn bytes)))))
-    (omega arith, omega arith, (omega arith, omega arith, tt)))
-    (omega arith, omega arith, tt))
+    (append-numbered (bookConditions bytes) (orderConditions (varsIn bytes) o) (
+      up-to-nine (omega arith) (omega arith),
+      (
+        up-to-nine (omega arith) (omega arith),
+        (up-to-nine (omega arith) (omega arith), (up-to-nine (omega arith) (omega arith), rules-numbered (varsIn bytes) (rulesIn bytes))),
+      ),
+    )
+    (up-to-nine (omega arith) (omega arith), (up-to-nine (omega arith) (omega arith), (inr refl, tt))))
+    (up-to-nine (omega arith) (omega arith), tt))

@@ -12,10 +12,11 @@ use lib.Pow.{pow-mono}
 use Rattle.words.proofs.Truth.{clash}
 use Rattle.steps.specs.Clause.{Clause}
 use Rattle.steps.specs.State.{Ending, Ending.can, Ending.cannot, Ending.outOfBranchings, Ending.outOfClauses}
-use Rattle.steps.specs.Run.{Assumptions, Outcome, run}
+use Rattle.steps.specs.Run.{Outcome, run}
 use Rattle.steps.specs.Demands as steps
 use Rattle.steps.proofs.Allowances as allowances
 use Rattle.steps.proofs.Bound as steps-bound
+use Rattle.order.specs.Order.{Order, complete}
 use Rattle.book.specs.Bytes.{varsIn, rulesIn, encode}
 use Rattle.book.specs.Refusals.{firstRow, ruleRows, bookRows, orderRows, admitRows}
 use Rattle.book.specs.Conditions.{ruleConditions, orderConditions}
@@ -33,9 +34,11 @@ use Rattle.answer.proofs.Ending.{tally-told, number-few}
 use Rattle.contract.specs.Check.{Lengths, Result, Result.refused, Result.ran, outcome, check}
 use Rattle.contract.specs.Filled.{answerOf}
 use Rattle.contract.specs.Demands.{answer, Permitted, Named, Answers, AnswersFit, LimitsPass, Tells, Outcomes, Settled, StopsOnBranchings, StopsOnPlaces, withPlaces, Buys, DerivedBegin, IsVerdict, Bound, Demands}
+use Rattle.contract.proofs.Examples.{one-run}
 use Rattle.contract.proofs.Checking.{refusals, runs, numbered, ran-passed, admitted-ran}
 use Rattle.contract.proofs.Filling.{admitted-input, ran-right, ran-spent, ran-records, filling, untouched, no-part}
 use Rattle.contract.proofs.NeverCovered.{never-covered}
+use Rattle.contract.proofs.Completed.{same-ran, by-completed, two-words}
 
 -- ---- answers
 
@@ -59,7 +62,7 @@ answers bytes o allowance l = go (check bytes o allowance l) refl
     go (refused k) e = numbered bytes o l k (refusals bytes o allowance l k .0 e)
     go (ran r) e = named-ending (r .ending) (tallyOf r)
 
--- a refusal's number is at most 9 and a stop's at most 11; a run makes no more branchings than the allowance, no more derived rules than places, of which more
+-- a refusal's number is at most 12 and a stop's at most 11; a run makes no more branchings than the allowance, no more derived rules than places, of which more
 -- than 2,048 are refused, and at most 64 records
 pub answers-fit : AnswersFit
 unfolding answerOf
@@ -68,7 +71,7 @@ answers-fit bytes o allowance l h = go (check bytes o allowance l) refl
     go : (x : Result) → check bytes o allowance l ≡ x → Packable (answerOf x)
     go (refused k) e =
         let named = numbered bytes o l k (refusals bytes o allowance l k .0 e) in
-        record { number = omega (arith, named .1); branchings = omega arith; derived = omega arith; records = omega arith }
+        record { number = ⊎-elim (λ h. omega (arith, h .1)) (λ h. omega arith) named; branchings = omega arith; derived = omega arith; records = omega arith }
     go (ran r) e =
         let told = tally-told (r .ending) (tallyOf r) in
         let spent = ran-spent bytes o allowance l r e in
@@ -86,7 +89,7 @@ pub limits-pass : LimitsPass
 unfolding admitRows read
 limits-pass rules o count faultless ordered allowance =
     admitted-ran bytes o allowance _ admitted (record { same = refl; few = omega arith; decided = omega arith; trues = omega arith; redundant = omega arith })
-    ∙ ap₂ (λ (n : ℕ) (cs : List Clause). ran (run n cs o allowance 2048)) (from .vars-are) (from .clauses-are)
+    ∙ ap₂ (λ (n : ℕ) (cs : List Clause). ran (run n cs (complete o) allowance 2048)) (from .vars-are) (from .clauses-are)
   where
     bytes : List ℕ
     bytes = encode 64 rules
@@ -126,18 +129,18 @@ said-cannot outOfBranchings c t e = clash cc
 said-cannot outOfClauses c t e = clash cc
 
 -- the answer to a check that was run
-told : (bytes : List ℕ) (o : Assumptions) (allowance : ℕ) (l : Lengths) (r : Outcome) → check bytes o allowance l ≡ ran r → Tells r (answer bytes o allowance l)
+told : (bytes : List ℕ) (o : Order) (allowance : ℕ) (l : Lengths) (r : Outcome) → check bytes o allowance l ≡ ran r → Tells r (answer bytes o allowance l)
 told bytes o allowance l r e = subst (λ (x : Result). Tells r (answerOf x)) (sym e) (tells r)
 
 -- it is "can" or "cannot" where the run ends so
 told-can :
-    (bytes : List ℕ) (o : Assumptions) (allowance : ℕ) (l : Lengths) (r : Outcome) → check bytes o allowance l ≡ ran r →
+    (bytes : List ℕ) (o : Order) (allowance : ℕ) (l : Lengths) (r : Outcome) → check bytes o allowance l ≡ ran r →
     (t : Tally) → answer bytes o allowance l ≡ Can t → r .ending ≡ can
 unfolding answerOf
 told-can bytes o allowance l r e t a = said-can (r .ending) (tallyOf r) t (sym (ap answerOf e) ∙ a)
 
 told-cannot :
-    (bytes : List ℕ) (o : Assumptions) (allowance : ℕ) (l : Lengths) (r : Outcome) → check bytes o allowance l ≡ ran r →
+    (bytes : List ℕ) (o : Order) (allowance : ℕ) (l : Lengths) (r : Outcome) → check bytes o allowance l ≡ ran r →
     (t : Tally) → answer bytes o allowance l ≡ Cannot t → r .ending ≡ cannot
 unfolding answerOf
 told-cannot bytes o allowance l r e t a = said-cannot (r .ending) (tallyOf r) t (sym (ap answerOf e) ∙ a)
@@ -163,18 +166,22 @@ permitted-places : (l : Lengths) (places : ℕ) → Permitted l → places ≤ 2
 permitted-places l places p h = record { same = refl; few = h; decided = p .decided; trues = p .trues; redundant = p .redundant }
 
 -- a verdict that was reached, and other allowances and tables
-module _ (bytes : List ℕ) (o : Assumptions) (r : Outcome) (d : Settled bytes o r) (allowance : ℕ) (l : Lengths) (p : Permitted l) where
+module _ (bytes : List ℕ) (o : Order) (r : Outcome) (d : Settled bytes o r) (allowance : ℕ) (l : Lengths) (p : Permitted l) where
+  -- the order itself comes to it
+  settled : check bytes o (d .allowance) (d .tables) ≡ ran r
+  settled = same-ran bytes (d .asked) o (d .same) (d .allowance) (d .tables) r (d .reached)
+
   reached : firstRow (admitRows bytes o) ≡ none
-  reached = ran-passed bytes o (d .allowance) (d .tables) r (d .reached) .admitted
+  reached = ran-passed bytes o (d .allowance) (d .tables) r settled .admitted
 
   -- the same of the steps
-  bought : steps.Buys (varsIn bytes) (rulesIn bytes) o r allowance (l .pos)
+  bought : steps.Buys (varsIn bytes) (rulesIn bytes) (complete o) r allowance (l .pos)
   bought =
-      allowances.demand3 (varsIn bytes) (rulesIn bytes) o (admitted-input bytes o reached) r
+      allowances.demand3 (varsIn bytes) (rulesIn bytes) (complete o) (admitted-input bytes o reached) r
       (record {
         allowance = d .allowance;
         places = d .tables .pos;
-        reached = sym (ran-passed bytes o (d .allowance) (d .tables) r (d .reached) .by-the-steps);
+        reached = sym (ran-passed bytes o (d .allowance) (d .tables) r settled .by-the-steps);
         verdict = d .verdict;
       })
       allowance
@@ -195,11 +202,11 @@ module _ (bytes : List ℕ) (o : Assumptions) (r : Outcome) (d : Settled bytes o
   enough =
       permitted-places l (length (r .derived)) p
       (le-trans
-      (ran-spent bytes o (d .allowance) (d .tables) r (d .reached) .no-more-clauses)
-      (ran-passed bytes o (d .allowance) (d .tables) r (d .reached) .permitted .few))
+      (ran-spent bytes o (d .allowance) (d .tables) r settled .no-more-clauses)
+      (ran-passed bytes o (d .allowance) (d .tables) r settled .permitted .few))
 
   with-enough : (x : Outcome) → check bytes o allowance (withPlaces (length (r .derived)) l) ≡ ran x →
-      x ≡ run (varsIn bytes) (rulesIn bytes) o allowance (length (r .derived))
+      x ≡ run (varsIn bytes) (rulesIn bytes) (complete o) allowance (length (r .derived))
   with-enough x e = ran-passed bytes o allowance (withPlaces (length (r .derived)) l) x e .by-the-steps
 
   buys : Buys bytes o r allowance l
@@ -223,15 +230,15 @@ module _ (bytes : List ℕ) (o : Assumptions) (r : Outcome) (d : Settled bytes o
       }
 
 pub derived-begin : DerivedBegin
-derived-begin bytes o allowance allowance′ l l′ r r′ e e′ h g =
+derived-begin bytes o o′ same allowance allowance′ l l′ r r′ e e′ h g =
     let p = ran-passed bytes o allowance l r e in
-    let p′ = ran-passed bytes o allowance′ l′ r′ e′ in
+    let p′ = ran-passed bytes o allowance′ l′ r′ (same-ran bytes o′ o (sym same) allowance′ l′ r′ e′) in
     rw (p .by-the-steps, p′ .by-the-steps)
-    (allowances.derived-begin (varsIn bytes) (rulesIn bytes) o (admitted-input bytes o (p .admitted)) allowance (l .pos) allowance′ (l′ .pos) h g)
+    (allowances.derived-begin (varsIn bytes) (rulesIn bytes) (complete o) (admitted-input bytes o (p .admitted)) allowance (l .pos) allowance′ (l′ .pos) h g)
 
 -- the answer to a run with a verdict
 verdict-answer :
-    (bytes : List ℕ) (o : Assumptions) (allowance : ℕ) (l : Lengths) (r : Outcome) → check bytes o allowance l ≡ ran r → steps.Verdict (r .ending) →
+    (bytes : List ℕ) (o : Order) (allowance : ℕ) (l : Lengths) (r : Outcome) → check bytes o allowance l ≡ ran r → steps.Verdict (r .ending) →
     IsVerdict (answer bytes o allowance l)
 verdict-answer bytes o allowance l r e v =
     let t = told bytes o allowance l r e in
@@ -242,7 +249,7 @@ bound bytes o l h =
     let n = varsIn bytes in
     let always : (allowance : ℕ) → check bytes o allowance l ≡ ran (outcome bytes o allowance l) = λ allowance. runs bytes o allowance l _ .1 (h, refl) in
     let p = ran-passed bytes o 0 l _ (always 0) in
-    let b = steps-bound.always-enough n (rulesIn bytes) o (admitted-input bytes o (p .admitted)) in
+    let b = steps-bound.always-enough n (rulesIn bytes) (complete o) (admitted-input bytes o (p .admitted)) in
     record {
       enough = λ allowance g f. verdict-answer bytes o allowance l _ (always allowance) (b .enough allowance (l .pos) g f);
       to-eleven =
@@ -268,6 +275,9 @@ demands =
       answers-fit = answers-fit;
       outcomes = outcomes;
       never-covered = never-covered;
+      by-completed = by-completed;
+      without-standard = two-words;
+      one-run = one-run;
       buys = buys;
       stops-spent = ran-spent;
       derived-begin = derived-begin;

@@ -9,11 +9,12 @@ use native.Mathlib.Omega.{arith}
 use lib.ListN.{length, take, drop, length-map, length-append, length-drop}
 use lib.Seq.{take-at, drop-at}
 use Rattle.steps.specs.Clause.{Clause, DSequent}
-use Rattle.steps.specs.Run.{Assumptions, Outcome}
+use Rattle.steps.specs.Run.{Outcome}
 use Rattle.steps.specs.Shape.{Input}
 use Rattle.steps.specs.Demands.{Right, Spent}
 use Rattle.steps.proofs.Soundness.{demand2}
 use Rattle.steps.proofs.Allowances.{stops-spent as run-spent}
+use Rattle.order.specs.Order.{Order, complete}
 use Rattle.book.specs.Bytes.{varsIn, rulesIn}
 use Rattle.book.specs.Refusals.{firstRow, admitRows}
 use Rattle.book.proofs.Accepted.{none-admitted}
@@ -99,19 +100,19 @@ module _ (r : Outcome) (t : Tables) where
 
 -- ---- a run
 
--- an admitted book and order are an input of the steps
-pub admitted-input : (bytes : List ℕ) (o : Assumptions) → firstRow (admitRows bytes o) ≡ none → Input (varsIn bytes) (rulesIn bytes) o
+-- an admitted book and the completed order are an input of the steps
+pub admitted-input : (bytes : List ℕ) (o : Order) → firstRow (admitRows bytes o) ≡ none → Input (varsIn bytes) (rulesIn bytes) (complete o)
 admitted-input bytes o a = none-admitted bytes o a .input
 
-module _ (bytes : List ℕ) (o : Assumptions) (allowance : ℕ) (l : Lengths) (r : Outcome) (e : check bytes o allowance l ≡ ran r) where
+module _ (bytes : List ℕ) (o : Order) (allowance : ℕ) (l : Lengths) (r : Outcome) (e : check bytes o allowance l ≡ ran r) where
   -- demand 2
-  pub ran-right : Right (varsIn bytes) (rulesIn bytes) o r
+  pub ran-right : Right (varsIn bytes) (rulesIn bytes) (complete o) r
   ran-right =
       let p = ran-passed bytes o allowance l r e in
       subst
-      (Right (varsIn bytes) (rulesIn bytes) o)
+      (Right (varsIn bytes) (rulesIn bytes) (complete o))
       (sym (p .by-the-steps))
-      (demand2 (varsIn bytes) (rulesIn bytes) o (admitted-input bytes o (p .admitted)) _ _)
+      (demand2 (varsIn bytes) (rulesIn bytes) (complete o) (admitted-input bytes o (p .admitted)) _ _)
 
   -- within the allowances
   pub ran-spent : Spent allowance (l .pos) r
@@ -120,7 +121,7 @@ module _ (bytes : List ℕ) (o : Assumptions) (allowance : ℕ) (l : Lengths) (r
       subst
       (Spent allowance (l .pos))
       (sym (p .by-the-steps))
-      (run-spent (varsIn bytes) (rulesIn bytes) o (admitted-input bytes o (p .admitted)) _ _)
+      (run-spent (varsIn bytes) (rulesIn bytes) (complete o) (admitted-input bytes o (p .admitted)) _ _)
 
   -- at most 64 records
   pub ran-records : length (r .records) ≤ 64
@@ -128,7 +129,7 @@ module _ (bytes : List ℕ) (o : Assumptions) (allowance : ℕ) (l : Lengths) (r
 
 -- the tables after a check that was run
 pub ran-fills :
-    (bytes : List ℕ) (o : Assumptions) (allowance : ℕ) (t : Tables) (r : Outcome) → check bytes o allowance (lengths t) ≡ ran r →
+    (bytes : List ℕ) (o : Order) (allowance : ℕ) (t : Tables) (r : Outcome) → check bytes o allowance (lengths t) ≡ ran r →
     Fills r t (filled (check bytes o allowance (lengths t)) t)
 ran-fills bytes o allowance t r e =
     let fits = ran-spent bytes o allowance (lengths t) r e .no-more-clauses in

@@ -4,6 +4,7 @@ use mathlib.Core.List.{List, [], _∷_, map}
 use Rattle.steps.specs.Clause.{Clause}
 use Rattle.steps.specs.Run.{Outcome}
 use Rattle.steps.proofs.NeverCovered as steps
+use Rattle.order.specs.Order.{complete}
 use Rattle.book.specs.Bytes.{varsIn, rulesIn}
 use Rattle.contract.specs.Filled.{Tables, lengths}
 use Rattle.contract.specs.Demands.{rulesOf, NeverCovered}
@@ -22,6 +23,6 @@ never-covered bytes o allowance t r e =
       handed-out = handed-out;
       none-covers =
           λ before after c is.
-          steps.never-covered (varsIn bytes) (rulesIn bytes) o allowance (lengths t .pos) before after c
+          steps.never-covered (varsIn bytes) (rulesIn bytes) (complete o) allowance (lengths t .pos) before after c
           (ap (λ (x : Outcome). x .derived) (sym (ran-passed bytes o allowance (lengths t) r e .by-the-steps)) ∙ sym handed-out ∙ is);
     }

@@ -5,6 +5,7 @@ use mathlib.Core.Option.{Option, some, none}
 use Prim.Native.Nat.{ℕ}
 use lib.Dec.{eqb, ltb}
 use Rattle.steps.specs.Run.{Assumptions, Outcome, run}
+use Rattle.order.specs.Order.{Order, complete}
 use Rattle.book.specs.Limits.{maxDerived, minRecords}
 use Rattle.book.specs.Bytes.{varsIn, rulesIn}
 use Rattle.book.specs.Refusals.{Row, row, firstRow, admitRows}
@@ -27,13 +28,17 @@ tablesFault l =
 abbrev pub tableRows : Lengths → List Row
 tableRows l = row 9 (tablesFault l) ∷ []
 
--- 1 to 9, in the order in which they are tested
-abbrev pub checkRows : List ℕ → Assumptions → Lengths → List Row
+-- 1 to 8, 12 and 9, in the order in which they are tested
+abbrev pub checkRows : List ℕ → Order → Lengths → List Row
 checkRows bytes o l = admitRows bytes o ++ tableRows l
 
--- what the steps come to. The places are the length of the derived tables
-abbrev pub outcome : List ℕ → Assumptions → ℕ → Lengths → Outcome
-outcome bytes o allowance l = run (varsIn bytes) (rulesIn bytes) o allowance (l .pos)
+-- what the steps come to with such wishes. The places are the length of the derived tables
+abbrev pub outcomeWith : Assumptions → List ℕ → ℕ → Lengths → Outcome
+outcomeWith wishes bytes allowance l = run (varsIn bytes) (rulesIn bytes) wishes allowance (l .pos)
+
+-- with those of the completed order
+abbrev pub outcome : List ℕ → Order → ℕ → Lengths → Outcome
+outcome bytes o allowance l = outcomeWith (complete o) bytes allowance l
 
 -- a refusal, or what a run came to
 pub data Result : Type 0 where
@@ -41,10 +46,10 @@ pub data Result : Type 0 where
   ran : Outcome → Result
 
 -- refused by the row that was found, and else run
-abbrev pub resultBy : List ℕ → Assumptions → ℕ → Lengths → Option ℕ → Result
+abbrev pub resultBy : List ℕ → Order → ℕ → Lengths → Option ℕ → Result
 resultBy bytes o allowance l (some k) = refused k
 resultBy bytes o allowance l none = ran (outcome bytes o allowance l)
 
 -- book bytes, order, branching allowance, and the lengths of the lent tables
-unfoldable pub check : List ℕ → Assumptions → ℕ → Lengths → Result
+unfoldable pub check : List ℕ → Order → ℕ → Lengths → Result
 check bytes o allowance l = resultBy bytes o allowance l (firstRow (checkRows bytes o l))

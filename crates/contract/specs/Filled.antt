@@ -4,7 +4,7 @@ use mathlib.Core.List.{List, _++_, map}
 use Prim.Native.Nat.{ℕ}
 use lib.ListN.{length, drop}
 use Rattle.steps.specs.Clause.{Clause, DSequent}
-use Rattle.steps.specs.Run.{Assumptions, Outcome}
+use Rattle.order.specs.Order.{Order}
 use Rattle.answer.specs.Answer.{ofOutcome}
 use Rattle.answer.specs.declared.Answer.{Answer}
 use Rattle.answer.specs.declared.Answer.the-variants.{Refused}
@@ -58,6 +58,6 @@ filled (refused k) t = t
 filled (ran r) t = filledWith (r .derived) (r .records) t
 
 -- what the entry point promises: its answer and all five tables are those of the definition
-pub record Checked (bytes : List ℕ) (o : Assumptions) (allowance : ℕ) (before : Tables) (r : Answer) (after : Tables) : Type 0 where
+pub record Checked (bytes : List ℕ) (o : Order) (allowance : ℕ) (before : Tables) (r : Answer) (after : Tables) : Type 0 where
   pub answer : r ≡ answerOf (check bytes o allowance (lengths before))
   pub tables : after ≡ filled (check bytes o allowance (lengths before)) before

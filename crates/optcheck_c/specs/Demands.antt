@@ -2,7 +2,7 @@
 use mathlib.Core.Path.{_≡_}
 use mathlib.Core.List.{List}
 use Prim.Native.Nat.{ℕ, _^_, _<_}
-use Rattle.steps.specs.Run.{Assumptions}
+use Rattle.order.specs.Order.{Order}
 use Rattle.answer.specs.Packed.{unpacked}
 use Rattle.contract.specs.Check.{check}
 use Rattle.contract.specs.Filled.{Tables, lengths, answerOf}
@@ -11,7 +11,7 @@ use Rattle.optcheck_c.specs.Exported.{Exported}
 -- what a caller takes out of the word is the definition's answer: no number and no count is cut off
 abbrev pub Whole : Type 0
 Whole =
-    (bytes : List ℕ) (o : Assumptions) (allowance : ℕ) (before after : Tables) (w : ℕ) → allowance < 2 ^ 32 →
+    (bytes : List ℕ) (o : Order) (allowance : ℕ) (before after : Tables) (w : ℕ) → allowance < 2 ^ 32 →
     Exported bytes o allowance before w after → unpacked w ≡ answerOf (check bytes o allowance (lengths before))
 
 pub record Demands : Type 0 where

@@ -9,6 +9,7 @@ use Rattle.steps.specs.Enter.{unit, swept, falsifiedNaming, enter}
 use Rattle.steps.specs.Merge.{covers, resolvent, join, merge}
 use Rattle.steps.specs.Search.{step, search}
 use Rattle.steps.specs.Run.{units, finish, searched, run}
+use Rattle.order.specs.Order.{complete}
 use Rattle.book.specs.Bytes.{bytesOf, number, wordAt, wordsIn, pair, clausesIn, flat}
 use Rattle.book.specs.Refusals.{firstRow, above, ruleRows, bookRows, orderRows, admitRows}
 use Rattle.contract.specs.Check.{check, tablesFault}
@@ -19,8 +20,19 @@ use Rattle.reply.specs.Demands.{Examples}
 
 pub examples : Examples
 unfolding
-    replyTo resultIn textOf check tablesFault firstRow above ruleRows bookRows orderRows admitRows bytesOf number wordAt wordsIn pair clausesIn flat
+    replyTo resultIn textOf check complete tablesFault firstRow above ruleRows bookRows orderRows admitRows bytesOf number wordAt wordsIn pair clausesIn flat
     outcomeText fields clauseLines recordLines decimal decimalUpTo
     minus meets firstOf lowest membersUpTo members ones onesIn vars keepers satisfied falsified names undecidedIn without undecided live
     allInactive monotone firstMonotone sweep unit swept falsifiedNaming enter covers resolvent join merge step search units finish searched run
-examples = record { documented = refl; nothing = refl; no-whole-order = refl; no-book = refl; faulty-order = refl }
+examples =
+    record {
+      documented = refl;
+      nothing = refl;
+      no-whole-order = refl;
+      no-book = refl;
+      faulty-order = refl;
+      standard-above = refl;
+      wanted-above = refl;
+      standard-wanted = refl;
+      standard-unwanted = refl;
+    }

@@ -11,7 +11,7 @@ use borrow.Author.Tests.{ltb-true, ltb-false}
 use lib.Dec.{ltb}
 use lib.ListN.{length, take, drop, getD, length-drop}
 use lib.Seq.{take-all, length-take-le, getD-take, getD-drop}
-use Rattle.steps.specs.Run.{Assumptions}
+use Rattle.order.specs.Order.{Order}
 use Rattle.book.specs.Limits.{maxVars, maxClauses}
 use Rattle.book.specs.Bytes.{bookBytes, varsIn, countIn}
 use Rattle.contract.specs.Check.{Lengths, Result.refused, check}
@@ -23,7 +23,7 @@ use Rattle.reply.proofs.Reply.{result-checked}
 -- all checks of more bytes than the largest book has, of n options and m rules, are refused by the number k
 abbrev Refuses : ℕ → ℕ → ℕ → Type 0
 Refuses n m k =
-    (bytes : List ℕ) (o : Assumptions) (l : Lengths) → varsIn bytes ≡ n → countIn bytes ≡ m → bookBytes maxClauses < length bytes →
+    (bytes : List ℕ) (o : Order) (l : Lengths) → varsIn bytes ≡ n → countIn bytes ≡ m → bookBytes maxClauses < length bytes →
     check bytes o allowance l ≡ refused k
 
 -- there is such a number

@@ -6,7 +6,7 @@ use Prim.Native.Nat.{ℕ, _+_}
 use lib.Dec.{ltb}
 use lib.ListN.{length, drop}
 use Rattle.steps.specs.Clause.{Clause, DSequent}
-use Rattle.steps.specs.Run.{Assumptions}
+use Rattle.order.specs.Order.{Order}
 use Rattle.book.specs.Bytes.{bookBytes, wordAt}
 use Rattle.book.specs.Limits.{maxClauses, maxDerived, minRecords}
 use Rattle.answer.specs.Answer.{ofOutcome}
@@ -26,11 +26,11 @@ places = record { pos = maxDerived; neg = maxDerived; decided = minRecords; true
 
 -- the bytes of an order
 abbrev pub orderBytes : ℕ
-orderBytes = 16
+orderBytes = 24
 
--- wanted and unwanted words, low byte first
-abbrev pub orderIn : List ℕ → Assumptions
-orderIn input = record { pos = wordAt input 0; neg = wordAt input 8 }
+-- wanted, unwanted and standard words, low byte first
+abbrev pub orderIn : List ℕ → Order
+orderIn input = record { wanted = wordAt input 0; unwanted = wordAt input 8; standard = wordAt input 16 }
 
 -- the order's bytes, then the book; refusal 1 with fewer bytes than the order has
 unfoldable pub resultIn : Lengths → List ℕ → Result

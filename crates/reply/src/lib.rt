@@ -6,14 +6,14 @@ ghost use Rattle.contract.specs.Filled.{lent};
 ghost use Rattle.report.specs.Text.{Printed};
 ghost use Rattle.reply.specs.Reply.{Answered, replyTo, readable, longest};
 use answer::Answer;
-use book::Assumptions;
 use book::Book;
+use order::Order;
 
 // The branching allowance of the program,
 const ALLOWANCE: u32 = 1000000;
 
-// the bytes of an order, its two words,
-const ORDER_BYTES: usize = 16;
+// the bytes of an order, its three words,
+const ORDER_BYTES: usize = 24;
 
 // and those of the largest book: its sizes, and two words for each clause.
 const LARGEST_BOOK: usize = 3 + 16 * Book::MAX_CLAUSES;
@@ -76,9 +76,10 @@ fn check_input(
     if input.len() < ORDER_BYTES {
         return Answer::Refused(1);
     }
-    let order = Assumptions {
-        pos: book::word_at(input, 0),
-        neg: book::word_at(input, 8),
+    let order = Order {
+        wanted: book::word_at(input, 0),
+        unwanted: book::word_at(input, 8),
+        standard: book::word_at(input, 16),
     };
     checker::check(
         &input[ORDER_BYTES..],

@@ -1,7 +1,7 @@
 -- The demands on the steps, each as a named type that is proved in `proofs/`. The record at the end has them all. docs/STEPS.md has the steps in words and
--- how to read the signs ("Signs"). Demands 2 and 3 are about every number of options, every book that was read, every order over its options (`Input n book o`:
--- rules and order name only options 1 to n, and no rule names one with both signs), and all allowances. `run n book o allowance places` is the outcome: its
--- `ending`, how many `branchings`, the `derived` rules and the `records`.
+-- how to read the signs ("Signs"). Demands 2 and 3 are about every number of options, every book that was read, every completed order over its options
+-- (`Input n book o`: rules and order name only options 1 to n, and no rule names one with both signs), and all allowances. `run n book o allowance places` is the
+-- outcome: its `ending`, how many `branchings`, the `derived` rules and the `records`.
 use mathlib.Core.Path.{_≡_}
 use mathlib.Core.Bool.{Bool, true, false, not}
 use mathlib.Core.List.{List, [], _∷_, _++_, List·Memᴰ}

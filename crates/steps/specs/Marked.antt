@@ -76,7 +76,7 @@ marked =
     (run 2 W (order 0 0) 2 3, out outOfBranchings 2 (clause 1 0 ∷ []) []) ∷
     (run 2 W (order 0 0) 3 0, out outOfClauses 2 [] []) ∷ []
 
--- cases 26, 50, 392, 397, 217, 14, 281, 236, 60, 195, 22, 319, 172, 145 and 47 of `tests/vectors/p03.txt`, and then cases as `rust/port` gives them
+-- 15 cases that another independent program answered, and then cases as `rust/port` gives them
 unfoldable pub further : List (Outcome × Outcome)
 further =
     (ample 0 (clause 0 0 ∷ clause 0 0 ∷ clause 0 0 ∷ clause 0 0 ∷ clause 0 0 ∷ []) (order 0 0), out cannot 0 [] []) ∷

@@ -1,4 +1,4 @@
--- A run of a book and an order, and its outcome.
+-- A run of a book and a completed order, and its outcome.
 use mathlib.Core.Bool.{true, false}
 use mathlib.Core.List.{List, [], _∷_, _++_, map}
 use Prim.Native.Nat.{ℕ, _+_}
@@ -8,7 +8,7 @@ use Rattle.steps.specs.Clause.{Clause, Assignment, DSequent}
 use Rattle.steps.specs.State.{State, Ending, Ending.can, Ending.cannot, Ending.outOfBranchings, Ending.outOfClauses, Side, Side.up, Side.ended}
 use Rattle.steps.specs.Search.{search}
 
--- the order: `pos` are the wanted options, `neg` the unwanted ones
+-- a completed order (crate `order`): `pos` are the wanted options, `neg` the unwanted ones
 pub record Assumptions : Type 0 where
   pub pos : ℕ
   pub neg : ℕ

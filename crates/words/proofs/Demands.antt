@@ -1,7 +1,7 @@
 -- Every demand of `specs/Demands`, each by its law.
 use Rattle.words.specs.Demands.{Demands}
 use Rattle.words.proofs.Membership.{has-minus, has-firstOf, ext}
-use Rattle.words.proofs.Lowest.{lowest-is, members-are}
+use Rattle.words.proofs.Lowest.{lowest-is, lowest-first}
 use Rattle.words.proofs.Count.{lowest-trailing}
 
 pub demands : Demands
@@ -12,5 +12,5 @@ demands =
       difference = has-minus;
       first-variables = has-firstOf;
       same-members = ext;
-      listed-members = members-are;
+      listed-members = lowest-first;
     }

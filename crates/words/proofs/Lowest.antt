@@ -7,15 +7,17 @@ use mathlib.Core.Bool.{Bool, true, false, not, _&&_, true≢false, false≢true}
 use mathlib.Core.List.{List, [], _∷_, List·Memᴰ, List·Memᴰ·head, List·Memᴰ·tail, List·Memᴰ·not-nil, List·Memᴰ·cases-cons}
 use Prim.Native.Nat.{ℕ, zero, suc, _+_, _-_, _*_, _/_, _^_, _≤_, _<_}
 use native.Mathlib.Nat.{le-refl, le-trans, le-of-suc-le-suc, not-suc-le-zero, sub-self, add-zero, pow-suc}
-use native.Mathlib.Decide.{le-ind}
+use native.Mathlib.Decide.{decLt, le-ind}
 use native.Mathlib.Omega.{arith}
 use borrow.Author.Tests.{eqb-true, eqb-false}
 use lib.Arith.{bin-ind}
 use lib.Bits.{bitAnd, and-self, and-le-l}
 use lib.Dec.{eqb}
+use lib.Pow.{pow-lt}
 use Rattle.words.specs.Words.{isZero, odd, digit, has, minus, meets, lowest, members, membersUpTo, Within}
+use Rattle.words.specs.Demands.{Ascending, ListedMembers}
 use Rattle.words.proofs.Membership.{halves-at, odd-of, half-of, has-first, has-next, has-zero, has-bit, has-bit-other, has-bit-eq, has-minus, minus-halves}
-use Rattle.words.proofs.Sets.{member-nonzero, half-nonzero, minus-within, meets-intro}
+use Rattle.words.proofs.Sets.{member-nonzero, half-nonzero, minus-within, minus-out, meets-intro}
 
 -- ---- the lowest member, by halves
 
@@ -163,3 +165,32 @@ are-listed (suc n) (suc x) k h m = go (are-listed n (minus (suc x) (lowest (suc 
 pub are-members : (x k : ℕ) → has x k ≡ true → List·Memᴰ (2 ^ k) (members x)
 unfolding members
 are-members x k m = are-listed x x k (le-refl x) m
+
+-- a member of what is left without the lowest one is above it
+above-lowest : (x v : ℕ) → isZero x ≡ false → (k : ℕ) × (v ≡ 2 ^ k) × (has (minus x (lowest x)) k ≡ true) → lowest x < v
+above-lowest x v n m =
+    let l = lowest-is x n in
+    elim (decLt (l .0) (m .0)) [
+      | yes below ↦ rw (l .1, m .1) (pow-lt below)
+      | no not-below ↦ elim (decLt (m .0) (l .0)) [
+        | yes above ↦ absurd (true≢false (sym (minus-within x (lowest x) (m .0) (m .2)) ∙ l .3 (m .0) above))
+        | no not-above ↦
+            let same : l .0 ≡ m .0 = omega arith in
+            absurd (true≢false (sym (ap (λ (y : ℕ). has y (m .0)) (l .1 ∙ ap (λ (i : ℕ). 2 ^ i) same) ∙ has-bit (m .0)) ∙ minus-out x (lowest x) (m .0) (m .2)))
+      ]
+    ]
+
+-- each in the list is below all after it
+listed-ascending : (n x : ℕ) → Ascending (membersUpTo n x)
+unfolding membersUpTo
+listed-ascending zero x = tt
+listed-ascending (suc n) zero = tt
+listed-ascending (suc n) (suc x) = (
+  λ v m. above-lowest (suc x) v refl (listed-are n (minus (suc x) (lowest (suc x))) v m),
+  listed-ascending n (minus (suc x) (lowest (suc x))),
+)
+
+-- the members are listed lowest first
+pub lowest-first : ListedMembers
+unfolding members
+lowest-first x = record { each = members-are x; all = are-members x; ascending = listed-ascending x x }

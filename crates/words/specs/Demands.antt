@@ -1,8 +1,7 @@
 -- What is demanded of the words, each as a named type that is proved in `proofs/`: the definitions by arithmetic say what a reader takes them to say.
 use mathlib.Core.Path.{_≡_}
 use mathlib.Core.Bool.{true, false, not, _&&_}
-use mathlib.Core.List.{List·Memᴰ}
-use mathlib.Core.Logic.{_↔_}
+use mathlib.Core.List.{List, [], _∷_, List·Memᴰ}
 use Prim.Native.Nat.{ℕ, _^_, _<_}
 use lib.Count.{trailingZeros}
 use lib.Dec.{ltb}
@@ -35,9 +34,20 @@ FirstVariables = (n k : ℕ) → has (firstOf n) k ≡ ltb k n
 abbrev pub SameMembers : Type 0
 SameMembers = (a b : ℕ) → ((k : ℕ) → has a k ≡ has b k) → a ≡ b
 
--- the listed members are words of one variable each, and all of them are members
+-- each number is below all that stand after it
+abbrev pub Ascending : List ℕ → Type 0
+Ascending [] = Unit {0}
+Ascending (w ∷ ws) = ((v : ℕ) → List·Memᴰ v ws → w < v) × Ascending ws
+
+-- the words of the variables that P is about, of one variable each, lowest first
+pub record LowestFirst (P : ℕ → Type 0) (ws : List ℕ) : Type 0 where
+  pub each : (w : ℕ) → List·Memᴰ w ws → (k : ℕ) × (w ≡ 2 ^ k) × P k
+  pub all : (k : ℕ) → P k → List·Memᴰ (2 ^ k) ws
+  pub ascending : Ascending ws
+
+-- the listed members are just the members, lowest first
 abbrev pub ListedMembers : Type 0
-ListedMembers = (x w : ℕ) → List·Memᴰ w (members x) → (k : ℕ) × (w ≡ 2 ^ k) × (has x k ≡ true)
+ListedMembers = (x : ℕ) → LowestFirst (λ k. has x k ≡ true) (members x)
 
 pub record Demands : Type 0 where
   pub lowest-member : LowestMember

@@ -86,8 +86,8 @@ fn try_book(make: Make, small: &Small, tried: &mut Tried) -> Result<(), String> 
 pub fn check(small: &Small) -> Check {
     let rules = small.rules.iter().map(|&(fitted, left_out)| Rule { fitted, left_out }).collect();
     let book = Book { options: small.options, rules };
-    let (wanted, unwanted) = small.order;
-    let input = input_bytes(Order { wanted, unwanted }, &book_bytes(&book));
+    let (wanted, unwanted, standard) = small.order;
+    let input = input_bytes(Order { wanted, unwanted, standard }, &book_bytes(&book));
     Check { input, places: Places::equal(AMPLE_PLACES, 64), allowance: AMPLE_ALLOWANCE }
 }
 
@@ -181,7 +181,7 @@ mod tests {
     #[test]
     fn the_port_itself_differs_nowhere() {
         let tried = run(&|_| Box::new(Port)).unwrap();
-        assert_eq!(tried, Tried { books: 22, pairs: 676, lengths: 22 * 11 });
+        assert_eq!(tried, Tried { books: 26, pairs: 738, lengths: 26 * 11 });
     }
 
     #[test]

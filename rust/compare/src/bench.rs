@@ -244,10 +244,12 @@ fn timed(row: &Row, check: &mut dyn FnMut(&Input) -> u32) -> (Duration, u64) {
 }
 
 fn run_port(input: &Input) -> Outcome {
+    let Order { wanted, unwanted, standard } = input.order;
     port::check(&Request {
         book: &input.bytes,
-        wanted: input.order.wanted,
-        unwanted: input.order.unwanted,
+        wanted,
+        unwanted,
+        standard,
         places: Places::equal(PROGRAM_PLACES, PROGRAM_RECORD_PLACES),
         allowance: PROGRAM_ALLOWANCE,
     })
@@ -302,11 +304,10 @@ fn library() -> Option<Check> {
     let mut derived = [0; 2].map(|word| vec![word; PROGRAM_PLACES]);
     let mut records = [0; 3].map(|word| vec![word; PROGRAM_RECORD_PLACES]);
     Some(Box::new(move |input| {
-        let Order { wanted, unwanted } = input.order;
         let [pos, neg] = &mut derived;
         let [decided, trues, redundant] = &mut records;
         let tables = optcheck::Tables { pos, neg, decided, trues, redundant };
-        let answer = optcheck::check(&input.bytes, wanted, unwanted, PROGRAM_ALLOWANCE, tables);
+        let answer = optcheck::check(&input.bytes, input.order, PROGRAM_ALLOWANCE, tables);
         black_box(answer).branchings
     }))
 }

@@ -5,11 +5,12 @@ use optbook::{Book, Order};
 /// Books of at most this many options are tried.
 pub const MOST_OPTIONS: usize = 12;
 
-/// Some choice keeps all rules and the order; nothing is said of a larger book.
+/// Some choice keeps all rules and the completed order; nothing is said of a larger book.
 pub fn can_be_built(order: Order, book: &Book) -> Option<bool> {
     if book.options > MOST_OPTIONS {
         return None;
     }
+    let order = order.completed();
     let mut choices = 0..1u64 << book.options;
     Some(choices.any(|choice| meets_order(order, choice) && keeps_all(book, choice)))
 }
@@ -35,11 +36,14 @@ mod tests {
     #[test]
     fn a_book_and_its_orders() {
         let book = two_options(&[(3, 0), (0, 3)]);
-        let of = |wanted, unwanted| can_be_built(Order { wanted, unwanted }, &book);
-        assert_eq!(of(0, 0), Some(true));
-        assert_eq!(of(1, 0), Some(true));
-        assert_eq!(of(3, 0), Some(false));
-        assert_eq!(of(0, 3), Some(false));
+        let of =
+            |wanted, unwanted, standard| can_be_built(Order { wanted, unwanted, standard }, &book);
+        assert_eq!(of(0, 0, 0), Some(true));
+        assert_eq!(of(1, 0, 0), Some(true));
+        assert_eq!(of(3, 0, 0), Some(false));
+        assert_eq!(of(0, 3, 0), Some(false));
+        assert_eq!(of(1, 0, 2), Some(false));
+        assert_eq!(of(1, 2, 3), Some(true));
     }
 
     #[test]

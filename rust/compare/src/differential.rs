@@ -103,13 +103,14 @@ fn confirm(outside: Outside, input: &[u8], can: bool, tally: &mut Tally) -> Resu
     Ok(())
 }
 
-/// How many derived rules there are, of which no earlier rule, of the book, of the order or derived,
-/// may have all its entries among theirs.
+/// How many derived rules there are, of which no earlier rule, of the book, of the completed order or
+/// derived, may have all its entries among theirs.
 fn not_covered(input: &[u8], derived: &[Rule]) -> Result<usize, String> {
     if derived.is_empty() {
         return Ok(0);
     }
     let (order, book) = read_input(input)?;
+    let order = order.completed();
     let mut earlier: Vec<(u64, u64)> =
         book.rules.iter().map(|rule| (rule.fitted, rule.left_out)).collect();
     for option in (0..OPTIONS).map(optbook::option) {
@@ -236,7 +237,8 @@ mod tests {
         assert!(tally.solved_outside > tally.tried_all_choices);
         assert!(tally.tried_all_choices > 0);
         let told = tally.told();
-        assert!(told.contains("order above n             5   refused 7 5\n"), "{told}");
+        assert!(told.contains("order above n             4   refused 7 4\n"), "{told}");
+        assert!(told.contains("standard above n          4   refused 12 4\n"), "{told}");
     }
 
     #[test]
@@ -275,7 +277,7 @@ mod tests {
     #[test]
     fn a_derived_rule_that_an_earlier_one_covers_is_told() {
         let book = Book { options: 3, rules: vec![optbook::Rule { fitted: 1, left_out: 4 }] };
-        let order = Order { wanted: 2, unwanted: 1 };
+        let order = Order { wanted: 0, unwanted: 1, standard: 3 };
         let input = optbook::bytes::input_bytes(order, &optbook::bytes::book_bytes(&book));
         let of = |rules: &[(u64, u64)]| {
             let derived: Vec<Rule> =

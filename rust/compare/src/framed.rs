@@ -4,7 +4,7 @@
 use crate::vectors::program_cases;
 
 /// As much of an input as the program reads: an order, the largest book, and one byte more.
-const READABLE: usize = 16_404;
+const READABLE: usize = 16_412;
 
 /// What the test program reads, and what it must write.
 pub struct Framed {
@@ -38,7 +38,7 @@ mod tests {
              case c\nin {long}\nout\nx\ny\nend\n"
         );
         let Framed { stdin, stdout } = framed(&text).unwrap();
-        assert_eq!(stdin[..6], [2, 0, 1, 2, 0x14, 0x40]);
+        assert_eq!(stdin[..6], [2, 0, 1, 2, 0x1c, 0x40]);
         assert_eq!(stdin.len(), 2 + 2 + 2 + READABLE);
         assert_eq!(stdout, "refused 1 0 0 0\nx\ny\n");
     }
@@ -46,7 +46,7 @@ mod tests {
     #[test]
     fn the_test_program_has_the_stored_cases() {
         let project = concat!(env!("CARGO_MANIFEST_DIR"), "/../..");
-        let text = std::fs::read_to_string(format!("{project}/tests/vectors/p03.txt")).unwrap();
+        let text = std::fs::read_to_string(format!("{project}/tests/vectors/p01.txt")).unwrap();
         let Framed { stdin, stdout } = framed(&text).unwrap();
         let stored =
             |name: &str| std::fs::read(format!("{project}/crates/vectors/{name}")).unwrap();

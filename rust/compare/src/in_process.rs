@@ -152,7 +152,7 @@ mod tests {
     #[test]
     fn clauses_are_the_rules_and_then_the_wishes() {
         let rules = vec![Rule { fitted: 0b1, left_out: 0b10 }, Rule::default()];
-        let order = Order { wanted: 0b100, unwanted: 0b1 };
+        let order = Order { wanted: 0b100, unwanted: 0b1, standard: 0b1 };
         let Clauses(literals) = Clauses::of(order, &Book { options: 3, rules });
         assert_eq!(literals, [1, -2, 0, 0, -1, 0, 3, 0]);
     }
@@ -171,7 +171,7 @@ mod tests {
         let all_rules = shapes::all_rules(3);
         let mut one_fewer = all_rules.clone();
         one_fewer.rules.pop();
-        let wanted = Order { wanted: 0b1, unwanted: 0 };
+        let wanted = Order { wanted: 0b1, ..Order::default() };
         let one = Book { options: 1, rules: vec![Rule { fitted: 0, left_out: 0b1 }] };
         for solver in all().into_iter().flatten() {
             let can = |order, book| solver.can_be_built(&Clauses::of(order, book));

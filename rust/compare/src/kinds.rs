@@ -1,7 +1,7 @@
 //! The kinds of generated cases: whole books with an order, damaged bytes, and orders that are
 //! refused. Case number i of a seed is the same wherever it is made.
 
-use crate::question::Check;
+use crate::question::{Check, ORDER};
 use crate::random::Random;
 use crate::shapes;
 use optbook::bytes::{book_bytes, input_bytes};
@@ -16,11 +16,12 @@ pub enum Kind {
     Damaged,
     Contradictory,
     AboveN,
+    StandardAboveN,
     ShortOrder,
 }
 
 /// All kinds, in the order in which they are told.
-pub const KINDS: [Kind; 8] = [
+pub const KINDS: [Kind; 9] = [
     Kind::Tiny,
     Kind::OptionBook,
     Kind::ThreeEntries,
@@ -28,11 +29,12 @@ pub const KINDS: [Kind; 8] = [
     Kind::Damaged,
     Kind::Contradictory,
     Kind::AboveN,
+    Kind::StandardAboveN,
     Kind::ShortOrder,
 ];
 
-/// How often each kind comes in a run of 20 cases.
-const TURNS: [Kind; 20] = [
+/// How often each kind comes in a run of 22 cases.
+const TURNS: [Kind; 22] = [
     Kind::Tiny,
     Kind::OptionBook,
     Kind::ThreeEntries,
@@ -53,6 +55,8 @@ const TURNS: [Kind; 20] = [
     Kind::Tiny,
     Kind::Damaged,
     Kind::OptionBook,
+    Kind::AllRules,
+    Kind::StandardAboveN,
 ];
 
 impl Kind {
@@ -65,6 +69,7 @@ impl Kind {
             Kind::Damaged => "damaged bytes",
             Kind::Contradictory => "contradictory order",
             Kind::AboveN => "order above n",
+            Kind::StandardAboveN => "standard above n",
             Kind::ShortOrder => "short order",
         }
     }
@@ -90,7 +95,7 @@ pub fn case(seed: u64, number: usize) -> Case {
 fn input(random: &mut Random, kind: Kind) -> Vec<u8> {
     match kind {
         Kind::Damaged => damaged(random),
-        Kind::ShortOrder => (0..random.below(16)).map(|_| random.word() as u8).collect(),
+        Kind::ShortOrder => (0..random.below(ORDER)).map(|_| random.word() as u8).collect(),
         _ => {
             let (order, book) = order_and_book(random, kind);
             input_bytes(order, &book_bytes(&book))
@@ -99,6 +104,18 @@ fn input(random: &mut Random, kind: Kind) -> Vec<u8> {
 }
 
 fn order_and_book(random: &mut Random, kind: Kind) -> (Order, Book) {
+    let (order, book) = wishes_and_book(random, kind);
+    let order = with_standard(random, order, book.options);
+    match kind {
+        Kind::Contradictory => (contradictory(random, order, book.options), book),
+        Kind::AboveN => (above(random, order, book.options), book),
+        Kind::StandardAboveN => (standard_above(random, order, book.options), book),
+        _ => (order, book),
+    }
+}
+
+/// A book, and an order without standard options that is not refused.
+fn wishes_and_book(random: &mut Random, kind: Kind) -> (Order, Book) {
     match kind {
         Kind::OptionBook => {
             let options = random.between(6, 64);
@@ -117,14 +134,7 @@ fn order_and_book(random: &mut Random, kind: Kind) -> (Order, Book) {
             (shapes::order(random, options, one_of), book)
         }
         Kind::AllRules => all_rules(random),
-        Kind::Contradictory => {
-            let (order, book) = some_option_book(random);
-            (contradictory(random, order, book.options), book)
-        }
-        Kind::AboveN => {
-            let (order, book) = some_option_book(random);
-            (above(random, order, book.options), book)
-        }
+        Kind::Contradictory | Kind::AboveN | Kind::StandardAboveN => some_option_book(random),
         _ => {
             let book = shapes::tiny(random);
             let one_of = random.between(2, 8);
@@ -157,18 +167,46 @@ fn some_option_book(random: &mut Random) -> (Order, Book) {
     (shapes::order(random, options, 6), book)
 }
 
-/// The order with at least one option both wanted and unwanted.
-fn contradictory(random: &mut Random, order: Order, options: usize) -> Order {
-    let both = option(random.below(options));
-    Order { wanted: order.wanted | both, unwanted: order.unwanted | both }
+/// The order with standard options, in half of the cases: about half of its wanted and unwanted
+/// ones, and each option in one of so many cases.
+fn with_standard(random: &mut Random, order: Order, options: usize) -> Order {
+    if random.chance(1, 2) {
+        return order;
+    }
+    let one_of = random.between(2, 2 + options);
+    let mut standard = (order.wanted | order.unwanted) & random.word();
+    for index in 0..options {
+        if random.chance(1, one_of) {
+            standard |= option(index);
+        }
+    }
+    Order { standard, ..order }
 }
 
-/// The order with an option above n; sometimes a contradiction beside it, which counts later.
+/// The order with at least one option both wanted and unwanted; sometimes a standard option above n
+/// beside it, which counts later.
+fn contradictory(random: &mut Random, order: Order, options: usize) -> Order {
+    let both = option(random.below(options));
+    let order = match random.chance(1, 4) {
+        true => standard_above(random, order, options),
+        false => order,
+    };
+    Order { wanted: order.wanted | both, unwanted: order.unwanted | both, ..order }
+}
+
+/// The order with a standard option above n.
+fn standard_above(random: &mut Random, order: Order, options: usize) -> Order {
+    Order { standard: order.standard | option(random.between(options, 63)), ..order }
+}
+
+/// The order with an option above n; sometimes a contradiction or a standard option above n beside
+/// it, which count later.
 fn above(random: &mut Random, order: Order, options: usize) -> Order {
     let far = option(random.between(options, 63));
-    let order = match random.chance(1, 4) {
-        true => contradictory(random, order, options),
-        false => order,
+    let order = match random.below(4) {
+        0 => contradictory(random, order, options),
+        1 => standard_above(random, order, options),
+        _ => order,
     };
     match random.chance(1, 2) {
         true => Order { wanted: order.wanted | far, ..order },
@@ -196,8 +234,9 @@ fn damaged(random: &mut Random) -> Vec<u8> {
     }
     let options = usize::from(*bytes.first().unwrap_or(&0));
     let known = first(options);
-    let order = Order { wanted: order.wanted & known, unwanted: order.unwanted & known };
-    input_bytes(order, &bytes)
+    let [wanted, unwanted, standard] =
+        [order.wanted, order.unwanted, order.standard].map(|set| set & known);
+    input_bytes(Order { wanted, unwanted, standard }, &bytes)
 }
 
 /// Gives one rule, where there is one, its fitted options as left-out ones too.
@@ -253,11 +292,24 @@ mod tests {
             match case.kind {
                 Kind::Contradictory => assert_eq!(ending(&case), "refused 8"),
                 Kind::AboveN => assert_eq!(ending(&case), "refused 7"),
+                Kind::StandardAboveN => assert_eq!(ending(&case), "refused 12"),
                 Kind::ShortOrder => assert_eq!(ending(&case), "refused 1"),
                 Kind::Damaged => (),
                 kind => assert!(readable, "{} is not whole", kind.name()),
             }
         }
+    }
+
+    #[test]
+    fn about_half_of_the_orders_have_standard_options_of_every_kind() {
+        let orders: Vec<Order> =
+            cases().iter().filter_map(|case| Some(case.check.parts()?.0)).collect();
+        let has = |of: fn(&Order) -> u64| orders.iter().filter(|order| of(order) != 0).count();
+        let share = 100 * has(|order| order.standard) / orders.len();
+        assert!((40..60).contains(&share), "{share} of 100");
+        assert!(has(|order| order.standard & order.wanted) > 100);
+        assert!(has(|order| order.standard & order.unwanted) > 100);
+        assert!(has(|order| order.standard & !order.wanted & !order.unwanted) > 100);
     }
 
     #[test]

@@ -14,15 +14,15 @@ impl UnderTest for Library {
         "proved library".to_string()
     }
 
-    /// The order is two words by type, so there is no short one.
+    /// The order is three words by type, so there is no short one.
     fn takes(&self, check: &Check) -> bool {
         check.parts().is_some()
     }
 
     fn printed(&mut self, check: &Check) -> Result<String, String> {
-        let (wanted, unwanted, book) = check.parts().ok_or("an order that is cut short")?;
+        let (order, book) = check.parts().ok_or("an order that is cut short")?;
         let mut lent = Lent::new(&check.places, self.rubbish);
-        let answer = optcheck::check(book, wanted, unwanted, check.allowance, lent.tables());
+        let answer = optcheck::check(book, order, check.allowance, lent.tables());
         Ok(lent.outcome(answer)?.to_string())
     }
 }

@@ -1,10 +1,11 @@
 //! A check as it is asked of a checker, and what the port answers.
 
 use crate::hex::hex;
+use optbook::Order;
 use port::{Outcome, Places, Request, PROGRAM_ALLOWANCE, PROGRAM_PLACES, PROGRAM_RECORD_PLACES};
 
 /// The bytes of an order on standard input.
-pub const ORDER: usize = 16;
+pub const ORDER: usize = 24;
 
 /// A check: the bytes of standard input, the lengths of the lent tables and the allowance.
 #[derive(Clone, Debug)]
@@ -33,11 +34,11 @@ impl Check {
         Check { places, allowance, input: self.input.clone() }
     }
 
-    /// The wanted word, the unwanted word and the book; none where the order is cut short.
-    pub fn parts(&self) -> Option<(u64, u64, &[u8])> {
+    /// The order and the book; none where the order is cut short.
+    pub fn parts(&self) -> Option<(Order, &[u8])> {
         let (order, book) = self.input.split_at_checked(ORDER)?;
-        let (wanted, unwanted) = order.split_at(ORDER / 2);
-        Some((word(wanted), word(unwanted), book))
+        let [wanted, unwanted, standard] = [0, 1, 2].map(|number| word(order, number));
+        Some((Order { wanted, unwanted, standard }, book))
     }
 
     /// The check in words, its bytes in hexadecimal.
@@ -52,16 +53,20 @@ impl Check {
 
     /// The outcome of the port.
     pub fn port_outcome(&self) -> Outcome {
-        let Some((wanted, unwanted, book)) = self.parts() else {
+        let Some((order, book)) = self.parts() else {
             return Outcome::refused(1);
         };
+        let Order { wanted, unwanted, standard } = order;
         let (places, allowance) = (self.places, self.allowance);
-        port::check(&Request { book, wanted, unwanted, places, allowance })
+        port::check(&Request { book, wanted, unwanted, standard, places, allowance })
     }
 }
 
-fn word(bytes: &[u8]) -> u64 {
-    u64::from_le_bytes(bytes.try_into().expect("a word has eight bytes"))
+/// The word with this number.
+fn word(bytes: &[u8], number: usize) -> u64 {
+    const WORD: usize = 8;
+    let word = &bytes[number * WORD..][..WORD];
+    u64::from_le_bytes(word.try_into().expect("a word has eight bytes"))
 }
 
 /// The first line in which what a checker prints is not what is due, with both lines.
@@ -81,11 +86,11 @@ mod tests {
     #[test]
     fn the_order_stands_before_the_book() {
         let mut input = vec![0; ORDER];
-        input[0] = 5;
-        input[ORDER - 1] = 1;
+        (input[0], input[9], input[ORDER - 1]) = (5, 2, 1);
         input.extend([7, 0, 0]);
         let check = Check::of_program(input);
-        assert_eq!(check.parts(), Some((5, 1 << 56, &[7, 0, 0][..])));
+        let order = Order { wanted: 5, unwanted: 2 << 8, standard: 1 << 56 };
+        assert_eq!(check.parts(), Some((order, &[7, 0, 0][..])));
         assert_eq!(Check::of_program(vec![0; ORDER - 1]).parts(), None);
     }
 

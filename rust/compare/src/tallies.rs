@@ -151,8 +151,9 @@ fn watched(check: &Check) -> Result<Run, String> {
     Ok(::tallies::run(book.options as u32, &rules, check.places.derived[0], check.allowance))
 }
 
-/// The book's rules and then the order's, wanted options first, each the lowest first.
+/// The book's rules and then the completed order's, wanted options first, each the lowest first.
 fn rules(order: Order, book: &Book) -> Vec<Rule> {
+    let order = order.completed();
     let members = |set: u64| (0..OPTIONS).map(option).filter(move |option| set & option != 0);
     let rules = book.rules.iter().map(|rule| Rule { fitted: rule.fitted, left_out: rule.left_out });
     let wanted = members(order.wanted).map(|fitted| Rule { fitted, left_out: 0 });
@@ -227,7 +228,7 @@ mod tests {
         let tally = run(5, 60).unwrap();
         assert_eq!(tally.books, 60);
         let summary = tally.summary(5);
-        assert!(summary.starts_with("60 books of seed 5 and 22 small books, "), "{summary}");
+        assert!(summary.starts_with("60 books of seed 5 and 26 small books, "), "{summary}");
         assert!(
             summary.ends_with(" words of tallies and index compared, no difference"),
             "{summary}"
@@ -259,10 +260,10 @@ mod tests {
     #[test]
     fn the_orders_rules_stand_after_the_books() {
         let book = Book { options: 64, rules: vec![optbook::Rule { fitted: 6, left_out: 9 }] };
-        let order = Order { wanted: 1 << 63 | 2, unwanted: 5 };
+        let order = Order { wanted: 1 << 63 | 2, unwanted: 5, standard: 12 };
         let rules: Vec<(u64, u64)> =
             rules(order, &book).iter().map(|rule| (rule.fitted, rule.left_out)).collect();
-        assert_eq!(rules, [(6, 9), (2, 0), (1 << 63, 0), (0, 1), (0, 4)]);
+        assert_eq!(rules, [(6, 9), (2, 0), (8, 0), (1 << 63, 0), (0, 1), (0, 4)]);
     }
 
     #[test]

@@ -124,26 +124,23 @@ fn question(lines: &[&str]) -> Result<Question, String> {
     let (first, fields) = lines.split_first().ok_or("there is no question")?;
     match key_and_value(first) {
         ("in", hex) if fields.is_empty() => Ok(Question::Check(Check::of_program(bytes(hex)?))),
-        ("check", "") => check(fields),
+        ("check", "") => Ok(Question::Check(check(fields)?)),
         (key, _) if NOT_YET.contains(&key) => Ok(Question::NotYet(format!("`{key}`"))),
         (key, _) => Err(format!("`{key}` is no question")),
     }
 }
 
 /// The question `check` with these fields.
-fn check(fields: &[&str]) -> Result<Question, String> {
+fn check(fields: &[&str]) -> Result<Check, String> {
     let [book, allowance, tables, order] =
         values(["book", "allowance", "tables", "order"], fields)?;
     let book = bytes(book)?;
     let [allowance] = numbers(allowance)?;
     let [pos, neg, decided, trues, redundant] = numbers(tables)?;
     let [wanted, unwanted, standard] = numbers(order)?;
-    if standard != 0u64 {
-        return Ok(Question::NotYet("a standard word".to_string()));
-    }
     let places = Places { derived: [pos, neg], records: [decided, trues, redundant] };
-    let input = input_bytes(Order { wanted, unwanted }, &book);
-    Ok(Question::Check(Check { input, places, allowance }))
+    let input = input_bytes(Order { wanted, unwanted, standard }, &book);
+    Ok(Check { input, places, allowance })
 }
 
 /// The values of lines with these keys, and of no more lines.
@@ -178,8 +175,9 @@ mod tests {
     use super::*;
     use crate::under_test::Port;
 
-    const SMALL: &str = "case small\nin 00000000000000000000000000000000000000\nout\ncan 0 0 0 0\n\
-                         end\n";
+    const SMALL: &str = "case small\n\
+                         in 000000000000000000000000000000000000000000000000000000\n\
+                         out\ncan 0 0 0 0\nend\n";
     /// The book of the rules "1" and "not 1".
     const STOP: &str = "case a stop\ncheck\n\
                         book 010200\
@@ -216,14 +214,19 @@ mod tests {
     }
 
     #[test]
+    fn a_standard_word_is_asked() {
+        let standard = STOP.replace("order 0 0 0", "order 0 0 1");
+        let above = STOP.replace("order 0 0 0", "order 0 0 2").replace("stopped 10", "refused 12");
+        let (score, told) = through_the_port(&format!("{standard}{above}")).unwrap();
+        assert_eq!((score.agree, told.as_str()), (2, ""));
+    }
+
+    #[test]
     fn what_is_not_known_yet_is_skipped_by_name() {
-        let standard = STOP.replace("order 0 0 0", "order 0 0 1").replace("a stop", "standard");
         let desk = "case a desk\ndesk 3\nset 1 fitted\nout\n0\n0\norder 1 0\nend\n";
-        let (score, told) = through_the_port(&format!("{standard}{SMALL}{desk}")).unwrap();
-        assert_eq!(score, Score { agree: 1, differ: Vec::new(), skipped: 2 });
-        let due = "skipped, `desk` is not known yet (1): a desk\n\
-                   skipped, a standard word is not known yet (1): standard\n";
-        assert_eq!(told, due);
+        let (score, told) = through_the_port(&format!("{SMALL}{desk}")).unwrap();
+        assert_eq!(score, Score { agree: 1, differ: Vec::new(), skipped: 1 });
+        assert_eq!(told, "skipped, `desk` is not known yet (1): a desk\n");
     }
 
     #[test]
@@ -248,7 +251,7 @@ mod tests {
     #[test]
     fn the_stored_cases_agree_through_the_port() {
         let folder = concat!(env!("CARGO_MANIFEST_DIR"), "/../../tests/vectors");
-        for (file, cases) in [("p03.txt", 419), ("reading.txt", 378)] {
+        for (file, cases) in [("p01.txt", 419), ("check.txt", 250), ("reading.txt", 420)] {
             let text = std::fs::read_to_string(format!("{folder}/{file}")).unwrap();
             let (score, told) = through_the_port(&text).unwrap();
             assert_eq!(score, Score { agree: cases, ..Score::default() }, "{file}: {told}");

@@ -1,10 +1,10 @@
-//! The bytes that the program reads: the wanted and unwanted words, then the book. The book is one
-//! byte for the options, two bytes for the rules, the fitted words and the left-out words. Numbers
-//! stand low byte first.
+//! The bytes that the program reads: the wanted, unwanted and standard words, then the book. The book
+//! is one byte for the options, two bytes for the rules, the fitted words and the left-out words.
+//! Numbers stand low byte first.
 
 use crate::{first, Book, Order, Rule, OPTIONS, RULES};
 
-const ORDER: usize = 16;
+const ORDER: usize = 24;
 const HEAD: usize = 3;
 const WORD: usize = 8;
 
@@ -21,6 +21,7 @@ pub fn book_bytes(book: &Book) -> Vec<u8> {
 pub fn input_bytes(order: Order, book: &[u8]) -> Vec<u8> {
     let mut bytes = order.wanted.to_le_bytes().to_vec();
     bytes.extend(order.unwanted.to_le_bytes());
+    bytes.extend(order.standard.to_le_bytes());
     bytes.extend(book);
     bytes
 }
@@ -32,15 +33,18 @@ pub fn read_input(input: &[u8]) -> Result<(Order, Book), String> {
         return Err(format!("an order and a book take {least} bytes or more, not {}", input.len()));
     }
     let (order, book) = input.split_at(ORDER);
-    let order = Order { wanted: word(order, 0), unwanted: word(order, 1) };
+    let [wanted, unwanted, standard] = [0, 1, 2].map(|number| word(order, number));
     let book = read_book(book)?;
-    if (order.wanted | order.unwanted) & !first(book.options) != 0 {
-        return Err(format!("the order names an option above {}", book.options));
+    if (wanted | unwanted) & !first(book.options) != 0 {
+        return Err(format!("a wanted or an unwanted option is above {}", book.options));
     }
-    if order.wanted & order.unwanted != 0 {
+    if wanted & unwanted != 0 {
         return Err("the order has an option that is both wanted and unwanted".to_string());
     }
-    Ok((order, book))
+    if standard & !first(book.options) != 0 {
+        return Err(format!("a standard option is above {}", book.options));
+    }
+    Ok((Order { wanted, unwanted, standard }, book))
 }
 
 fn read_book(bytes: &[u8]) -> Result<Book, String> {
@@ -94,9 +98,9 @@ mod tests {
     #[test]
     fn an_input_reads_back_as_it_was() {
         let book = Book { options: 64, rules: vec![rule(0x0102, 4), rule(1 << 63, 0), rule(0, 0)] };
-        let order = Order { wanted: 1 << 62, unwanted: 3 };
+        let order = Order { wanted: 1 << 62, unwanted: 3, standard: 1 << 63 | 2 };
         let input = input_bytes(order, &book_bytes(&book));
-        assert_eq!(input.len(), 16 + 3 + 16 * 3);
+        assert_eq!(input.len(), 24 + 3 + 16 * 3);
         assert_eq!(read_input(&input), Ok((order, book)));
     }
 
@@ -105,13 +109,16 @@ mod tests {
         let fault = |order, book: &[u8]| read_input(&input_bytes(order, book)).unwrap_err();
         let one = |rules| book_bytes(&Book { options: 1, rules });
         let none = Order::default();
-        assert!(fault(none, &[0, 0]).contains("19 bytes or more, not 18"));
+        assert!(fault(none, &[0, 0]).contains("27 bytes or more, not 26"));
         assert!(fault(none, &[65, 0, 0]).contains("65 options"));
         assert!(fault(none, &[1, 1, 4]).contains("1025 rules"));
         assert!(fault(none, &[1, 1, 0]).contains("takes 19 bytes, not 3"));
         assert!(fault(none, &one(vec![rule(1, 0), rule(2, 0)])).contains("rule 2 names"));
         assert!(fault(none, &one(vec![rule(1, 1)])).contains("rule 1 has one option in both"));
-        assert!(fault(Order { wanted: 2, unwanted: 0 }, &one(vec![])).contains("above 1"));
-        assert!(fault(Order { wanted: 1, unwanted: 1 }, &one(vec![])).contains("both wanted"));
+        let of =
+            |wanted, unwanted, standard| fault(Order { wanted, unwanted, standard }, &one(vec![]));
+        assert_eq!(of(2, 0, 2), "a wanted or an unwanted option is above 1");
+        assert!(of(1, 1, 2).contains("both wanted"));
+        assert_eq!(of(0, 1, 3), "a standard option is above 1");
     }
 }

@@ -1,5 +1,5 @@
 //! A book in DIMACS CNF, the form that the field's solvers read: option k is variable k, a rule is a
-//! clause, and a wish is a clause of one literal.
+//! clause, and a wish of the completed order is a clause of one literal.
 //!
 //! Read are files of at most 64 variables and 1,024 clauses. A clause may run over several lines, a
 //! literal may repeat, and `%` ends the file, as in old collections. A clause with a variable and its
@@ -15,8 +15,10 @@ pub struct Clauses {
     pub always_kept: Vec<usize>,
 }
 
-/// Book and order in the DIMACS form: the rules, then a clause for each wish, lowest option first.
+/// Book and order in the DIMACS form: the rules, then a clause for each wish of the completed order,
+/// lowest option first.
 pub fn write(book: &Book, order: Order) -> String {
+    let order = order.completed();
     let wish = |option| match (order.wanted & option != 0, order.unwanted & option != 0) {
         (true, _) => Some(Rule { fitted: option, left_out: 0 }),
         (_, true) => Some(Rule { fitted: 0, left_out: option }),
@@ -176,14 +178,21 @@ mod tests {
     #[test]
     fn a_book_and_its_order_are_written() {
         let book = Book { options: 64, rules: vec![rule(1, 1 << 63), rule(0, 0)] };
-        let order = Order { wanted: 2, unwanted: 5 };
+        let order = Order { wanted: 2, unwanted: 5, standard: 0 };
         assert_eq!(write(&book, order), "p cnf 64 5\n1 -64 0\n0\n-1 0\n2 0\n-3 0\n");
+    }
+
+    #[test]
+    fn a_standard_option_is_a_wish_unless_it_is_unwanted() {
+        let book = Book { options: 4, rules: vec![rule(1, 2)] };
+        let order = Order { wanted: 2, unwanted: 4, standard: 14 };
+        assert_eq!(write(&book, order), "p cnf 4 4\n1 -2 0\n2 0\n-3 0\n4 0\n");
     }
 
     #[test]
     fn what_is_written_reads_back_with_wishes_as_rules() {
         let mut book = Book { options: 64, rules: vec![rule(1, 1 << 63), rule(0, 0)] };
-        let text = write(&book, Order { wanted: 2, unwanted: 1 });
+        let text = write(&book, Order { wanted: 2, unwanted: 1, standard: 0 });
         book.rules.extend([rule(0, 1), rule(2, 0)]);
         assert_eq!(read("f", &text), Ok(Clauses { book, always_kept: vec![] }));
         let empty = write(&Book::default(), Order::default());

@@ -52,7 +52,7 @@ pub fn check(book: &Book, order: Order, limits: Limits) -> Result<Checked, Unlin
         redundant: &mut redundant,
     };
     let bytes = crate::bytes::book_bytes(book);
-    let answer = optcheck::check(&bytes, order.wanted, order.unwanted, limits.allowance, tables);
+    let answer = optcheck::check(&bytes, order, limits.allowance, tables);
     let rule = |i| Rule { fitted: pos[i], left_out: neg[i] };
     let record = |i| Record { decided: decided[i], fitted: trues[i], struck: redundant[i] };
     Ok(Checked {

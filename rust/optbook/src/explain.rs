@@ -15,7 +15,8 @@ pub struct Kept<T> {
 
 /// A smallest set of these demands, by leaving out, that cannot be kept, where all of them together
 /// cannot. The last is tried first, so that wishes go before rules. A demand whose check stopped is
-/// tried again as long as the set becomes smaller.
+/// tried again as long as the set becomes smaller. Of a book and an order the demands are those of
+/// the completed order (`Sheet::completed_demands`).
 pub fn smallest<T: Copy, E>(
     demands: &[T],
     mut check: impl FnMut(&[T]) -> Result<Kind, E>,
@@ -48,6 +49,7 @@ fn all_but<T: Copy>(kept: &[Kept<T>], left_out: usize) -> Vec<T> {
 #[cfg(test)]
 mod tests {
     use super::*;
+    use crate::sheet::{order, rules, Demand, Place, Sheet};
 
     type Never = std::convert::Infallible;
 
@@ -95,5 +97,46 @@ mod tests {
     fn where_each_check_stops_all_stay_and_none_is_known_to_be_needed() {
         let kept = smallest(&[1, 2], |_| Ok(Kind::Stopped));
         assert_eq!(found(kept), [(1, false), (2, false)]);
+    }
+
+    /// Whether these demands can be kept, by trying all choices.
+    fn tried(options: usize, demands: &[&(Demand, Place)]) -> Result<Kind, Never> {
+        let demands = || demands.iter().map(|(demand, _)| demand);
+        let (rules, order) = (rules(demands()), order(demands()).completed());
+        let mut choices = 0..1u64 << options;
+        let can = choices.any(|choice| {
+            let wishes = order.wanted & !choice == 0 && order.unwanted & choice == 0;
+            wishes && rules.iter().all(|rule| rule.is_kept_by(choice))
+        });
+        Ok(if can { Kind::Can } else { Kind::Cannot })
+    }
+
+    /// The lines of a text that stay.
+    fn reason(text: &str) -> Vec<usize> {
+        let sheet = Sheet::of("text", text).unwrap();
+        let check = |demands: &[_]| tried(sheet.names.len(), demands);
+        let kept = smallest(&sheet.completed_demands(), check).unwrap();
+        assert!(kept.iter().all(|kept| kept.needed));
+        kept.iter().map(|kept| kept.demand.1.line).collect()
+    }
+
+    #[test]
+    fn a_standard_option_is_left_out_like_a_wish() {
+        assert_eq!(reason("options: a b c\n!a | !b\nstandard: a\nstandard: b\nc\n"), [2, 3, 4]);
+        assert_eq!(reason("options: a b\n!a\nstandard: b\nwant: a\n"), [2, 4]);
+    }
+
+    /// Line 2 is no demand: with it and without line 6, lines 2 and 3 would be a reason, but of
+    /// another order.
+    #[test]
+    fn an_unwanted_standard_option_stays_out_where_its_wish_is_left_out() {
+        let text = "options: a b\nstandard: a\n!a\nb\n!b\nwithout: a\n";
+        assert_eq!(reason(text), [4, 5]);
+        assert_eq!(reason("options: a\nstandard: a\na\nwithout: a\n"), [3, 4]);
+    }
+
+    #[test]
+    fn a_standard_option_that_is_wanted_too_is_named_by_its_wish() {
+        assert_eq!(reason("options: a\nstandard: a\n!a\nwant: a\n"), [3, 4]);
     }
 }

@@ -12,6 +12,8 @@ pub mod outcome;
 pub mod sheet;
 pub mod text;
 
+pub use optcheck::Order;
+
 /// A book has at most this many options.
 pub const OPTIONS: usize = 64;
 /// A book has at most this many rules.
@@ -30,13 +32,6 @@ pub struct Rule {
 pub struct Book {
     pub options: usize,
     pub rules: Vec<Rule>,
-}
-
-/// The wanted and the unwanted options; the others are free.
-#[derive(Clone, Copy, Debug, Default, PartialEq, Eq)]
-pub struct Order {
-    pub wanted: u64,
-    pub unwanted: u64,
 }
 
 /// The option with this index, counted from 0, as a set.

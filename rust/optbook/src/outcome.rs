@@ -4,19 +4,20 @@
 use crate::engine::{Answer, Checked, Kind, Record};
 use crate::text::{rule_text, set_text};
 
-/// What each refusal (1 to 9) and each stop (10 and 11) says, by its number.
-const REASONS: [&str; 11] = [
+/// What each refusal (1 to 9, and 12) and each stop (10 and 11) says, by its number.
+const REASONS: [&str; 12] = [
     "the book has fewer than 3 bytes",
     "the book has more than 64 options",
     "the book has more than 1,024 rules",
     "the book's length is not 3 + 16 for each rule",
     "a rule names an option above the book's last",
     "a rule has one option in both words",
-    "the order names an option above the book's last",
+    "a wanted or an unwanted option is above the book's last",
     "an option is both wanted and unwanted",
     "the places for derived rules are more than 2,048",
     "another branching is due and the allowance is spent",
     "a new derived rule is due and all its places are full",
+    "a standard option is above the book's last",
 ];
 
 /// The outcome in words, over options with these names.
@@ -98,6 +99,8 @@ mod tests {
                    allowance is spent";
         assert_eq!(told(Kind::Stopped, 10), ten);
         assert!(told(Kind::Stopped, 11).ends_with("all its places are full"));
+        let twelve = "refused, number 12: a standard option is above the book's last";
+        assert_eq!(told(Kind::Refused, 12), twelve);
         assert_eq!(told(Kind::Refused, 63), "refused, number 63: no number of the table");
     }
 

@@ -4,15 +4,16 @@
 //! # what is to be fitted
 //! options: ring_main twin_header third_vessel
 //! ring_main | twin_header | !third_vessel
+//! standard: twin_header
 //! want: ring_main
 //! without: third_vessel
 //! ```
 //!
 //! `options:` names the options, the first being option 1; it stands before all else and may be
 //! repeated. A rule is entries with `|` between them; `!` says that leaving the option out keeps
-//! the rule. `false` alone is the empty rule, which nothing keeps. `want:` and `without:` add to
-//! the order. `#` begins a comment. A name is letters, digits and underscores, and begins with no
-//! digit.
+//! the rule. `false` alone is the empty rule, which nothing keeps. `standard:` names options that
+//! are taken as wanted unless the order has them without. `want:` and `without:` add to the order.
+//! `#` begins a comment. A name is letters, digits and underscores, and begins with no digit.
 
 use crate::text::EMPTY_RULE;
 use crate::{option, Book, Order, Rule, OPTIONS, RULES};
@@ -32,10 +33,12 @@ pub struct Mistake {
     pub what: String,
 }
 
-/// What must be kept: a rule of the book, or a wish of the order for one option, given as a set.
+/// What must be kept: a rule of the book, a standard option, or a wish of the order for one option.
+/// An option is given as a set.
 #[derive(Clone, Copy, Debug, PartialEq, Eq)]
 pub enum Demand {
     Rule(Rule),
+    Standard(u64),
     Want(u64),
     Without(u64),
 }
@@ -63,17 +66,18 @@ impl fmt::Display for Mistake {
 pub fn rules<'a>(demands: impl IntoIterator<Item = &'a Demand>) -> Vec<Rule> {
     let rule = |demand: &Demand| match demand {
         Demand::Rule(rule) => Some(*rule),
-        Demand::Want(_) | Demand::Without(_) => None,
+        Demand::Standard(_) | Demand::Want(_) | Demand::Without(_) => None,
     };
     demands.into_iter().filter_map(rule).collect()
 }
 
-/// The wishes among these demands, as one order.
+/// The standard options and the wishes among these demands, as one order.
 pub fn order<'a>(demands: impl IntoIterator<Item = &'a Demand>) -> Order {
     let mut order = Order::default();
     for demand in demands {
         match demand {
             Demand::Rule(_) => (),
+            Demand::Standard(option) => order.standard |= option,
             Demand::Want(option) => order.wanted |= option,
             Demand::Without(option) => order.unwanted |= option,
         }
@@ -106,6 +110,18 @@ impl Sheet {
         order(self.kept())
     }
 
+    /// The demands of the book and the completed order. A standard option that is wanted or unwanted
+    /// is none of its own: the wish says it. So each of them can be left out by itself, and no wish
+    /// that is left out makes an option wanted.
+    pub fn completed_demands(&self) -> Vec<&(Demand, Place)> {
+        let Order { wanted, unwanted, .. } = self.order();
+        let is_own = |demand: &Demand| match demand {
+            Demand::Standard(option) => (wanted | unwanted) & option == 0,
+            Demand::Rule(_) | Demand::Want(_) | Demand::Without(_) => true,
+        };
+        self.demands.iter().filter(|(demand, _)| is_own(demand)).collect()
+    }
+
     fn kept(&self) -> impl Iterator<Item = &Demand> {
         self.demands.iter().map(|(demand, _)| demand)
     }
@@ -119,18 +135,20 @@ impl Sheet {
         };
         match word.trim() {
             "options" => self.read_options(rest),
+            "standard" => self.read_standard(place, rest),
             "want" => self.read_wishes(place, rest, Demand::Want),
             "without" => self.read_wishes(place, rest, Demand::Without),
             other => Err(format!(
-                "`{other}:` is unknown: expected `options:`, `want:`, `without:` or a rule"
+                "`{other}:` is unknown: expected `options:`, `standard:`, `want:`, `without:` or a \
+                 rule"
             )),
         }
     }
 
     fn read_options(&mut self, names: &str) -> Result<(), String> {
         if !self.demands.is_empty() {
-            let expected = "expected all options before them";
-            return Err(format!("`options:` stands after a rule or a wish: {expected}"));
+            let what = "`options:` stands after a rule, a standard option or a wish";
+            return Err(format!("{what}: expected all options before them"));
         }
         for name in names.split_whitespace() {
             check_name(name)?;
@@ -178,6 +196,17 @@ impl Sheet {
             return Err(format!("`{name}` stands twice: {once}"));
         }
         *word |= option;
+        Ok(())
+    }
+
+    fn read_standard(&mut self, place: &Place, names: &str) -> Result<(), String> {
+        for name in names.split_whitespace() {
+            let demand = Demand::Standard(self.find(name)?);
+            if self.kept().any(|known| *known == demand) {
+                return Err(format!("`{name}` stands twice as standard: expected it once"));
+            }
+            self.demands.push((demand, place.clone()));
+        }
         Ok(())
     }
 
@@ -245,6 +274,7 @@ mod tests {
             "b",
             "# a plant\noptions: ring_main twin_header\noptions: third_vessel # more\n\n\
              ring_main | twin_header | !third_vessel\n! ring_main\nfalse\n\
+             standard: third_vessel twin_header\n\
              want: twin_header\nwithout: third_vessel ring_main\n",
         )
         .unwrap();
@@ -252,18 +282,37 @@ mod tests {
         assert_eq!(sheet.book().options, 3);
         let rules: Vec<_> = sheet.book().rules.iter().map(|r| (r.fitted, r.left_out)).collect();
         assert_eq!(rules, [(3, 4), (0, 1), (0, 0)]);
-        assert_eq!(sheet.order(), Order { wanted: 2, unwanted: 5 });
+        assert_eq!(sheet.order(), Order { wanted: 2, unwanted: 5, standard: 6 });
     }
 
     #[test]
     fn each_demand_has_its_place() {
-        let mut sheet = Sheet::of("b", "options: a b\n\na | b\n").unwrap();
+        let mut sheet = Sheet::of("b", "options: a b\n\na | b\nstandard: a b\n").unwrap();
         sheet.read("o", "# an order\nwant: b\nwithout: a\n").unwrap();
         let places: Vec<_> = sheet.demands.iter().map(|(_, place)| place.to_string()).collect();
-        assert_eq!(places, ["b: line 3", "o: line 2", "o: line 3"]);
+        assert_eq!(places, ["b: line 3", "b: line 4", "b: line 4", "o: line 2", "o: line 3"]);
         let kept: Vec<_> = sheet.kept().copied().collect();
         let rule = Demand::Rule(Rule { fitted: 3, left_out: 0 });
-        assert_eq!(kept, [rule, Demand::Want(2), Demand::Without(1)]);
+        let [first, second] = [Demand::Standard(1), Demand::Standard(2)];
+        assert_eq!(kept, [rule, first, second, Demand::Want(2), Demand::Without(1)]);
+    }
+
+    #[test]
+    fn a_standard_line_may_stand_in_the_order_and_name_what_is_wished_later() {
+        let mut sheet = Sheet::of("b", "options: a b c\nstandard: a\nb\n").unwrap();
+        sheet.read("o", "without: a b\nstandard: c\nstandard: b\nwant: c\n").unwrap();
+        assert_eq!(sheet.order(), Order { wanted: 4, unwanted: 3, standard: 7 });
+    }
+
+    #[test]
+    fn a_standard_option_that_is_wished_is_no_demand_of_the_completed_order() {
+        let text = "options: a b c\nstandard: a b c\na | b\nwant: a\nwithout: b\n";
+        let sheet = Sheet::of("b", text).unwrap();
+        let completed: Vec<_> =
+            sheet.completed_demands().iter().map(|(demand, _)| *demand).collect();
+        let rule = Demand::Rule(Rule { fitted: 3, left_out: 0 });
+        assert_eq!(completed, [Demand::Standard(4), rule, Demand::Want(1), Demand::Without(2)]);
+        assert_eq!(order(&completed).completed(), sheet.order().completed());
     }
 
     #[test]
@@ -286,7 +335,13 @@ mod tests {
             ("!a | !a", "`a` stands twice: expected each option once in a rule"),
             ("a | !a", "`a` stands both with and without `!`: expected each option once in a rule"),
             ("want: a a", "`a` stands twice in the order: expected it once"),
-            ("need: a", "`need:` is unknown: expected `options:`, `want:`, `without:` or a rule"),
+            ("standard: c", "no option is named `c`: expected a name of an `options:` line"),
+            ("standard: a b a", "`a` stands twice as standard: expected it once"),
+            (
+                "need: a",
+                "`need:` is unknown: expected `options:`, `standard:`, `want:`, `without:` or a \
+                 rule",
+            ),
             ("options: a", "option `a` is named twice: expected each name once"),
             (
                 "a b",
@@ -317,12 +372,16 @@ mod tests {
         assert_eq!(after("without: a\nwant: a"), both);
         let twice = "b: line 3: `a` stands twice in the order: expected it once";
         assert_eq!(after("without: a\nwithout: a"), twice);
-        let late = "b: line 3: `options:` stands after a rule or a wish: expected all options \
-                    before them";
+        let twice = "b: line 3: `a` stands twice as standard: expected it once";
+        assert_eq!(after("standard: a\nstandard: a"), twice);
+        let late = "b: line 3: `options:` stands after a rule, a standard option or a wish: \
+                    expected all options before them";
         assert_eq!(after("a\noptions: c"), late);
+        assert_eq!(after("standard: a\noptions: c"), late);
         assert_eq!(after("want: a\noptions: c"), late);
         let early = "b: line 2: `a` is not named yet: expected an `options:` line before it";
         assert_eq!(mistake("\na | b"), early);
+        assert_eq!(mistake("\nstandard: a"), early);
     }
 
     #[test]

@@ -16,7 +16,8 @@ pub fn write(names: &[String], book: &Book, order: Order) -> String {
     for &rule in &book.rules {
         text += &format!("{}\n", rule_text(rule, names));
     }
-    for (word, set) in [("want", order.wanted), ("without", order.unwanted)] {
+    let sets = [("standard", order.standard), ("want", order.wanted), ("without", order.unwanted)];
+    for (word, set) in sets {
         if set != 0 {
             text += &format!("{word}: {}\n", set_text(set, names));
         }
@@ -62,9 +63,10 @@ mod tests {
         let names = ["a", "b", "c"].map(str::to_string);
         let rule = |fitted, left_out| Rule { fitted, left_out };
         let book = Book { options: 3, rules: vec![rule(1, 2), rule(0, 0), rule(0, 4)] };
-        let order = Order { wanted: 5, unwanted: 2 };
+        let order = Order { wanted: 5, unwanted: 2, standard: 6 };
         let text = write(&names, &book, order);
-        assert_eq!(text, "options: a b c\na | !b\nfalse\n!c\nwant: a c\nwithout: b\n");
+        let due = "options: a b c\na | !b\nfalse\n!c\nstandard: b c\nwant: a c\nwithout: b\n";
+        assert_eq!(text, due);
         let sheet = Sheet::of("text", &text).unwrap();
         assert_eq!(
             (sheet.names.as_slice(), sheet.book(), sheet.order()),

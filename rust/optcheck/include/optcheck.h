@@ -24,7 +24,9 @@ extern "C" {
 #define OPTCHECK_RECORD_PLACES 64u    /* decided, trues and redundant: at least this */
 
 /*
- * Checks the order (wanted, unwanted) against the book, with at most `allowance` branchings.
+ * Checks the order (wanted, unwanted, standard) against the book, with at most `allowance`
+ * branchings. Each standard option that is not unwanted is taken as wanted, and the answer is about
+ * the order so completed. An option may be both wanted and standard, or unwanted and standard.
  *
  *   pos, neg                   derived rules: options that keep the rule when fitted, when left out
  *   decided, trues, redundant  records: decided options, those of them fitted, and the joint set
@@ -34,7 +36,7 @@ extern "C" {
  */
 uint64_t optcheck_check(
     const uint8_t *book, size_t book_len,
-    uint64_t wanted, uint64_t unwanted, uint32_t allowance,
+    uint64_t wanted, uint64_t unwanted, uint64_t standard, uint32_t allowance,
     uint64_t *pos, size_t pos_len,
     uint64_t *neg, size_t neg_len,
     uint64_t *decided, size_t decided_len,
@@ -55,7 +57,10 @@ uint64_t optcheck_check(
 /* One of the four kinds. */
 static inline unsigned optcheck_kind(uint64_t answer) { return (unsigned)(answer & 3); }
 
-/* 0 for a verdict, 1 to 9 refused, 10 or 11 stopped. */
+/*
+ * 0 for a verdict, 1 to 9 or 12 refused (12: a standard option above the book's last), 10 or 11
+ * stopped.
+ */
 static inline unsigned optcheck_number(uint64_t answer) { return (unsigned)(answer >> 2 & 63); }
 
 static inline uint32_t optcheck_branchings(uint64_t answer) { return (uint32_t)(answer >> 8); }

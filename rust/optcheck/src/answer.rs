@@ -65,6 +65,7 @@ mod tests {
         assert_eq!(Answer::of_word(0), answer(Kind::Can, 0, (0, 0, 0)));
         assert_eq!(Answer::of_word(1), answer(Kind::Cannot, 0, (0, 0, 0)));
         assert_eq!(Answer::of_word(38), answer(Kind::Refused, 9, (0, 0, 0)));
+        assert_eq!(Answer::of_word(50), answer(Kind::Refused, 12, (0, 0, 0)));
         assert_eq!(Answer::of_word(3 + 4 * 11), answer(Kind::Stopped, 11, (0, 0, 0)));
     }
 

@@ -4,10 +4,12 @@
 mod answer;
 #[cfg(feature = "proved")]
 mod library;
+mod order;
 
 pub use answer::{Answer, Kind};
 #[cfg(feature = "proved")]
 pub use library::check;
+pub use order::Order;
 
 /// The lent tables: two for derived rules, three for records. A bad length is a refusal.
 pub struct Tables<'a> {

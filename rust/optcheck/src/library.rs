@@ -1,6 +1,6 @@
 //! The call into the static library.
 
-use crate::{Answer, Tables};
+use crate::{Answer, Order, Tables};
 
 extern "C" {
     fn optcheck_check(
@@ -8,6 +8,7 @@ extern "C" {
         book_len: usize,
         wanted: u64,
         unwanted: u64,
+        standard: u64,
         allowance: u32,
         pos: *mut u64,
         pos_len: usize,
@@ -23,7 +24,8 @@ extern "C" {
 }
 
 /// Checks an order against a book with at most this many branchings.
-pub fn check(book: &[u8], wanted: u64, unwanted: u64, allowance: u32, tables: Tables) -> Answer {
+pub fn check(book: &[u8], order: Order, allowance: u32, tables: Tables) -> Answer {
+    let Order { wanted, unwanted, standard } = order;
     let Tables { pos, neg, decided, trues, redundant } = tables;
     // Safety: each pointer goes with the length of the slice that it is taken from, the slices are
     // borrowed for the call, and no two of them overlap.
@@ -33,6 +35,7 @@ pub fn check(book: &[u8], wanted: u64, unwanted: u64, allowance: u32, tables: Ta
             book.len(),
             wanted,
             unwanted,
+            standard,
             allowance,
             pos.as_mut_ptr(),
             pos.len(),

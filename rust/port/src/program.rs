@@ -1,4 +1,4 @@
-//! What the program does: standard input is the wanted and unwanted words, then the book.
+//! What the program does: standard input is the wanted, unwanted and standard words, then the book.
 
 use crate::book::word;
 use crate::outcome::Outcome;
@@ -11,7 +11,7 @@ pub const PROGRAM_RECORD_PLACES: usize = 64;
 /// The program's branching allowance.
 pub const PROGRAM_ALLOWANCE: u32 = 1_000_000;
 
-const ORDER: usize = 16;
+const ORDER: usize = 24;
 
 /// The outcome for the bytes of standard input.
 pub fn run_program(input: &[u8]) -> Outcome {
@@ -23,6 +23,7 @@ pub fn run_program(input: &[u8]) -> Outcome {
         book,
         wanted: word(order, 0),
         unwanted: word(order, 1),
+        standard: word(order, 2),
         places: Places::equal(PROGRAM_PLACES, PROGRAM_RECORD_PLACES),
         allowance: PROGRAM_ALLOWANCE,
     })

@@ -31,12 +31,14 @@ impl Places {
     }
 }
 
-/// A book's bytes, an order, the lent places and the branching allowance.
+/// A book's bytes, an order, the lent places and the branching allowance. The standard options come
+/// unless they are unwanted.
 #[derive(Clone, Copy, Debug)]
 pub struct Request<'a> {
     pub book: &'a [u8],
     pub wanted: u64,
     pub unwanted: u64,
+    pub standard: u64,
     pub places: Places,
     pub allowance: u32,
 }
@@ -47,13 +49,14 @@ pub fn check(request: &Request) -> Outcome {
         Err(number) => Outcome::refused(number),
         Ok(book) => {
             let mut table = book.rules;
-            table.extend(one_option_rules(request.wanted, request.unwanted));
+            table.extend(order_rules(request));
             steps::run(book.n, table, request.places.derived[0], request.allowance)
         }
     }
 }
 
-/// The book, where nothing is refused; else the refusal's number, 1 to 9.
+/// The book, where nothing is refused; else the refusal's number, 1 to 9 or 12. A standard option
+/// above n, which is 12, comes right after 8.
 fn accepted(request: &Request) -> Result<Book, u32> {
     let book = book::read(request.book)?;
     if (request.wanted | request.unwanted) & !first(book.n) != 0 {
@@ -62,16 +65,22 @@ fn accepted(request: &Request) -> Result<Book, u32> {
     if request.wanted & request.unwanted != 0 {
         return Err(8);
     }
+    if request.standard & !first(book.n) != 0 {
+        return Err(12);
+    }
     if !request.places.are_permitted() {
         return Err(9);
     }
     Ok(book)
 }
 
-/// The order as rules: the wanted options, lowest first, then the unwanted ones.
-fn one_option_rules(wanted: u64, unwanted: u64) -> Vec<Rule> {
+/// The completed order as rules: the wanted options and the standard ones that are not unwanted in
+/// one run, lowest first, then the unwanted ones.
+fn order_rules(request: &Request) -> Vec<Rule> {
+    let wanted = request.wanted | (request.standard & !request.unwanted);
     let fitted = members(wanted).into_iter().map(|option| Rule { fitted: option, left_out: 0 });
-    let left_out = members(unwanted).into_iter().map(|option| Rule { fitted: 0, left_out: option });
+    let unwanted = members(request.unwanted).into_iter();
+    let left_out = unwanted.map(|option| Rule { fitted: 0, left_out: option });
     fitted.chain(left_out).collect()
 }
 
@@ -83,4 +92,34 @@ fn members(mut set: u64) -> Vec<u64> {
         set &= set - 1;
     }
     members
+}
+
+#[cfg(test)]
+mod tests {
+    use super::*;
+
+    fn rules(wanted: u64, unwanted: u64, standard: u64) -> Vec<(u64, u64)> {
+        let places = Places::equal(0, RECORD_PLACES);
+        let request = Request { book: &[], wanted, unwanted, standard, places, allowance: 0 };
+        order_rules(&request).iter().map(|rule| (rule.fitted, rule.left_out)).collect()
+    }
+
+    #[test]
+    fn wanted_options_stand_lowest_first_and_then_the_unwanted_ones() {
+        assert_eq!(rules(0b1010, 0b0101, 0), [(2, 0), (8, 0), (0, 1), (0, 4)]);
+        assert_eq!(rules(0, 0, 0), []);
+    }
+
+    #[test]
+    fn standard_options_join_the_run_of_wanted_ones_and_stand_there_once() {
+        assert_eq!(rules(0b1010, 0b10000, 0b0101), [(1, 0), (2, 0), (4, 0), (8, 0), (0, 16)]);
+        assert_eq!(rules(0b0110, 0, 0b0011), [(1, 0), (2, 0), (4, 0)]);
+        assert_eq!(rules(1, 0, 1 << 63), [(1, 0), (1 << 63, 0)]);
+    }
+
+    #[test]
+    fn a_standard_option_that_is_unwanted_has_only_that_rule() {
+        assert_eq!(rules(0b0010, 0b0001, 0b0101), [(2, 0), (4, 0), (0, 1)]);
+        assert_eq!(rules(0, 0b0011, 0b0011), [(0, 1), (0, 2)]);
+    }
 }

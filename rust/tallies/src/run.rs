@@ -108,7 +108,7 @@ mod tests {
         rules.iter().for_each(|rule| book.extend(rule.fitted.to_le_bytes()));
         rules.iter().for_each(|rule| book.extend(rule.left_out.to_le_bytes()));
         let places = Places::equal(places, RECORDS);
-        check(&Request { book: &book, wanted: 0, unwanted: 0, places, allowance })
+        check(&Request { book: &book, wanted: 0, unwanted: 0, standard: 0, places, allowance })
     }
 
     #[test]

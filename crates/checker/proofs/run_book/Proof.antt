@@ -3,7 +3,7 @@
 use mathlib.Core.Path.{_≡_, refl, sym, _∙_}
 use mathlib.Core.Bool.{false}
 use native.Mathlib.Omega.{arith}
-use Rattle.book.specs.Values.{assumptionsOf}
+use Rattle.order.specs.Values.{assumptionsOf}
 use Rattle.contract.specs.Check.{tablesFault}
 use Rattle.contract.specs.Filled.{Tables, lent, lengths, answerOf}
 use Rattle.contract.proofs.Checking.{passing}

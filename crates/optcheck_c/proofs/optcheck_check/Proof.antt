@@ -2,7 +2,7 @@
 use mathlib.Core.Path.{_≡_, ap, subst⁻¹, _∙_}
 use mathlib.Core.List.{List}
 use Prim.Native.Nat.{ℕ, _^_, _<_}
-use Rattle.steps.specs.Run.{Assumptions}
+use Rattle.order.specs.Order.{Order}
 use Rattle.answer.specs.Packed.{packed, Packable}
 use Rattle.answer.specs.declared.Answer.{Answer}
 use Rattle.contract.specs.Filled.{Tables, lent, lengths, Checked}
@@ -13,7 +13,7 @@ use Rattle.optcheck_c.proofs.optcheck_check.Statement.{statement}
 use Rattle.optcheck_c.proofs.optcheck_check.Tie as tie
 
 -- what a check promises
-module _ (bytes : List ℕ) (o : Assumptions) (allowance : ℕ) (before after : Tables) (r : Answer) (checked : Checked bytes o allowance before r after) where
+module _ (bytes : List ℕ) (o : Order) (allowance : ℕ) (before after : Tables) (r : Answer) (checked : Checked bytes o allowance before r after) where
   -- its answer fits a word
   fits : allowance < 2 ^ 32 → Packable r
   fits h = subst⁻¹ Packable (checked .answer) (contract.demands .answers-fit bytes o allowance (lengths before) h)

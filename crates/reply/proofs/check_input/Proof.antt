@@ -6,13 +6,13 @@ use mathlib.Core.List.{List}
 use native.Mathlib.Omega.{arith}
 use lib.ListN.{length, take, drop, length-drop}
 use lib.Seq.{take-all}
-use Rattle.book.specs.Bytes.{wordAt}
+use Rattle.order.specs.Order.{Order}
 use Rattle.answer.specs.declared.Answer.{Answer}
 use Rattle.answer.specs.declared.Answer.the-variants.{Refused}
 use Rattle.contract.specs.Check.{Result, check}
 use Rattle.contract.specs.Filled.{Tables, lent, lengths, answerOf, filled, Checked}
 use borrow.Author.Needs.{needs}
-use Rattle.reply.specs.Reply.{allowance, orderBytes, resultIn, Answered}
+use Rattle.reply.specs.Reply.{allowance, orderBytes, orderIn, resultIn, Answered}
 use Rattle.reply.proofs.Reply.{result-short, result-checked}
 use Rattle.reply.proofs.check_input.Statement.{statement}
 use Rattle.reply.proofs.check_input.Tie as tie
@@ -25,19 +25,22 @@ module _ (input : List ℕ) (before : Tables) where
       let e = result-short (lengths before) input h in
       record { answer = ap answerOf (sym e); tables = ap (λ (x : Result). filled x before) (sym e) }
 
-  -- an order of the words p and q, and a check of the bytes after it
+  -- the order of the first bytes, and a check of the bytes after it
   order-and-book :
-      (p q : ℕ) (r : Answer) (after : Tables) → orderBytes ≤ length input → p ≡ wordAt input 0 → q ≡ wordAt input 8 →
-      Checked (take (length input - orderBytes) (drop orderBytes input)) (record { pos = p; neg = q }) allowance before r after →
-      Answered input before r after
-  order-and-book p q r after h e f done = record { answer = done .answer ∙ ap answerOf same; tables = done .tables ∙ ap (λ (x : Result). filled x before) same }
+      (o : Order) (r : Answer) (after : Tables) → orderBytes ≤ length input → o ≡ orderIn input →
+      Checked (take (length input - orderBytes) (drop orderBytes input)) o allowance before r after → Answered input before r after
+  order-and-book o r after h e done = record { answer = done .answer ∙ ap answerOf same; tables = done .tables ∙ ap (λ (x : Result). filled x before) same }
     where
-      same : check (take (length input - orderBytes) (drop orderBytes input)) (record { pos = p; neg = q }) allowance (lengths before) ≡ resultIn (lengths before) input
+      same : check (take (length input - orderBytes) (drop orderBytes input)) o allowance (lengths before) ≡ resultIn (lengths before) input
       same =
-          ap (λ (bs : List ℕ). check bs (record { pos = p; neg = q }) allowance (lengths before))
-          (take-all (length input - orderBytes) (drop orderBytes input) (omega (arith, length-drop orderBytes input)))
-          ∙ ap₂ (λ (x y : ℕ). check (drop orderBytes input) (record { pos = x; neg = y }) allowance (lengths before)) e f
+          ap₂ (λ (bs : List ℕ) (x : Order). check bs x allowance (lengths before))
+          (take-all (length input - orderBytes) (drop orderBytes input) (omega (arith, length-drop orderBytes input))) e
           ∙ sym (result-checked (lengths before) input h)
+
+-- orders with the same words are the same
+same-order : {p p′ q q′ s s′ : ℕ} → p ≡ p′ → q ≡ q′ → s ≡ s′ →
+    _≡_ {A = Order} (record { wanted = p; unwanted = q; standard = s }) (record { wanted = p′; unwanted = q′; standard = s′ })
+same-order p q s = cc
 
 -- the function's arguments, and the lent tables
 abbrev start : tie.After-slice-known5 → tie.Start
@@ -56,6 +59,9 @@ word-at-requires c κs = search needs
 
 word-at-requires-2 : tie.Need-word-at-requires-2
 word-at-requires-2 c κs = search needs
+
+word-at-requires-3 : tie.Need-word-at-requires-3
+word-at-requires-3 c κs = search needs
 
 sub-check : tie.Need-sub-check
 sub-check c = search needs
@@ -94,12 +100,11 @@ returns-2 : tie.Need-returns-2
 returns-2 c =
     let done = c .before .before .before .before .before .before .before .before .before .before in
     let words = done .before .before .before .before .before .before .before in
-    let whole = words .before .before in
+    let whole = words .before .before .before in
     let s = start (whole .before) in
-    order-and-book (s .args .input .now) (tables s) _ _ _ (left done)
+    order-and-book (s .args .input .now) (tables s) _ _ (left done)
     (omega (arith, whole .if1 .left))
-    (words .before .word-at .ensures)
-    (words .word-at2 .ensures)
+    (same-order (words .before .before .word-at .ensures) (words .before .word-at2 .ensures) (words .word-at3 .ensures))
     (done .check .ensures)
 
 pub check-input-spec : {M : Type 1} → statement M
@@ -109,6 +114,7 @@ check-input-spec =
     returns
     word-at-requires
     word-at-requires-2
+    word-at-requires-3
     sub-check
     part-check-start
     part-check-end

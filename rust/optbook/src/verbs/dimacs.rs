@@ -12,7 +12,8 @@ pub const VERB: Verb = Verb {
     does: "writes book and order in DIMACS CNF, for the field's solvers",
     example: "optbook dimacs examples/plant.book examples/plant.order | picosat",
     more: "\
-Option k is variable k, and comments tell its name. Each rule is a clause, and then each wish.
+Option k is variable k, and comments tell its name. Each rule is a clause, and then each wish. A
+standard option that is not unwanted is a wish.
 
 Exit status: 0; 64 bad command line, 65 a mistake in BOOK or ORDER.
 ",

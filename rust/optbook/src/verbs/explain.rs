@@ -19,15 +19,16 @@ pub const VERB: Verb = Verb {
     does: "says why an order cannot be built: rules and wishes that cannot be kept together",
     example: "optbook explain examples/plant.book examples/plant_cannot.order",
     more: "\
-What it prints is a readable book, each line with its place in BOOK or ORDER: the rules and wishes
-that cannot be kept together. Without any one of them the others can: they were left out one after
-the other, and each time the rest was checked by the proved checker. There may be other such sets.
-To check the answer, check it as a book:
+What it prints is a readable book, each line with its place in BOOK or ORDER: the rules, standard
+options and wishes that cannot be kept together. Without any one of them the others can: they were
+left out one after the other, and each time the rest was checked by the proved checker. There may be
+other such sets. A standard option that is also wanted stands there as wanted, and one that is
+unwanted as unwanted. To check the answer, check it as a book:
 
   optbook explain BOOK ORDER | optbook check -
 
---allowance N, --places N  as of `optbook check`, for each check. Where a check stops, the rule or
-                           wish stays, and its line says that it may not be needed
+--allowance N, --places N  as of `optbook check`, for each check. Where a check stops, what was left
+                           out stays, and its line says that it may not be needed
 
 Exit status: 0 can be built, so there is nothing to explain; 1 cannot; 2 refused, 3 stopped before
 a verdict; 64 bad command line, 65 a mistake in BOOK or ORDER.
@@ -40,7 +41,7 @@ a verdict; 64 bad command line, 65 a mistake in BOOK or ORDER.
 fn run(arguments: &Arguments) -> Result<Printed, Failure> {
     let limits = limits(arguments)?;
     let sheet = read_sheet(&arguments.files)?;
-    let demands: Vec<&(Demand, Place)> = sheet.demands.iter().collect();
+    let demands = sheet.completed_demands();
     let answer = checked(&sheet, &demands, limits)?;
     let told = match answer.kind {
         Kind::Cannot => {
@@ -90,13 +91,14 @@ fn names<'a>(sheet: &'a Sheet, kept: &[Kept<&(Demand, Place)>]) -> Vec<&'a str> 
 fn options(demand: Demand) -> u64 {
     match demand {
         Demand::Rule(rule) => rule.fitted | rule.left_out,
-        Demand::Want(option) | Demand::Without(option) => option,
+        Demand::Standard(option) | Demand::Want(option) | Demand::Without(option) => option,
     }
 }
 
 fn line(demand: Demand, names: &[String]) -> String {
     match demand {
         Demand::Rule(rule) => rule_text(rule, names),
+        Demand::Standard(option) => format!("standard: {}", set_text(option, names)),
         Demand::Want(option) => format!("want: {}", set_text(option, names)),
         Demand::Without(option) => format!("without: {}", set_text(option, names)),
     }
@@ -105,4 +107,27 @@ fn line(demand: Demand, names: &[String]) -> String {
 /// A place on one line, whatever the file's name is.
 fn printable(place: &Place) -> String {
     place.to_string().replace(char::is_control, "?")
+}
+
+#[cfg(test)]
+mod tests {
+    use super::*;
+
+    #[test]
+    fn what_stayed_is_a_readable_book_with_places() {
+        let mut sheet = Sheet::of("b", "options: a b c\n!a | !b\nstandard: c b\n").unwrap();
+        sheet.read("o", "want: a\n").unwrap();
+        let all = sheet.completed_demands();
+        let kept: Vec<_> = [0, 2, 3].map(|i| Kept { demand: all[i], needed: i != 2 }).into();
+        let due = "# cannot be built: no choice of options keeps all of these\n\
+                   # without one of them the others can be kept, but for those marked\n\
+                   options: a b\n\
+                   !a | !b      # b: line 2\n\
+                   standard: b  # b: line 3 (may not be needed: a check stopped)\n\
+                   want: a      # o: line 1\n";
+        let text = told(&sheet, &kept);
+        assert_eq!(text, due);
+        let order = Sheet::of("text", &text).unwrap().order();
+        assert_eq!((order.wanted, order.unwanted, order.standard), (1, 0, 2));
+    }
 }

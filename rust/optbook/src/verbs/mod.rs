@@ -65,6 +65,7 @@ BOOK and ORDER are readable texts, which are read one after the other; - is stan
 
   options: ring_main twin_header third_vessel
   ring_main | twin_header | !third_vessel      # a rule; ! says left out
+  standard: twin_header                        # wanted, unless the order is without it
   want: ring_main
   without: third_vessel
 

@@ -8,20 +8,25 @@ const VERBS: [&str; 6] = ["check", "explain", "bytes", "text", "dimacs", "from-d
 #[test]
 fn the_plant_goes_to_bytes_and_back() {
     let bytes = optbook(&["bytes", PLANT, CAN], b"").printed;
-    assert_eq!(bytes.len(), 16 + 3 + 16 * 15);
-    assert_eq!(bytes[16..19], [12, 15, 0]);
-    assert_eq!(bytes[..16], [0x01, 0x08, 0, 0, 0, 0, 0, 0, 0, 0x01, 0, 0, 0, 0, 0, 0]);
+    assert_eq!(bytes.len(), 24 + 3 + 16 * 15);
+    assert_eq!(bytes[24..27], [12, 15, 0]);
+    assert_eq!(bytes[..8], [0x01, 0x08, 0, 0, 0, 0, 0, 0]);
+    assert_eq!(bytes[8..16], [0, 0x01, 0, 0, 0, 0, 0, 0]);
+    assert_eq!(bytes[16..24], [0, 0x02, 0, 0, 0, 0, 0, 0]);
     let ended = optbook(&["text", "-", "--names", PLANT], &bytes);
     let text = ended.text();
     assert!(text.contains("\n!drum | ring_main | twin_header\n"), "{text}");
-    assert!(text.ends_with("want: drum screen\nwithout: scrubber\n"), "{text}");
+    let order = "standard: leachate_tank\nwant: drum screen\nwithout: scrubber\n";
+    assert!(text.ends_with(order), "{text}");
     assert_eq!(optbook(&["bytes", "-"], text.as_bytes()).printed, bytes);
 }
 
 #[test]
 fn options_without_names_are_numbered() {
-    let bytes = optbook(&["bytes", "-"], b"options: a b\n!b\nwant: a\n").printed;
-    assert_eq!(optbook(&["text", "-"], &bytes).text(), "options: x1 x2\n!x2\nwant: x1\n");
+    let text = b"options: a b\n!b\nwant: a\nstandard: b a\n";
+    let bytes = optbook(&["bytes", "-"], text).printed;
+    let due = "options: x1 x2\n!x2\nstandard: x1 x2\nwant: x1\n";
+    assert_eq!(optbook(&["text", "-"], &bytes).text(), due);
 }
 
 #[test]
@@ -33,8 +38,15 @@ fn a_book_goes_to_dimacs_and_back() {
     assert_eq!(back.text(), "options: x1 x2\nx1 | !x2\nx2\n");
     let plant = optbook(&["dimacs", PLANT], b"");
     let back = optbook(&["from-dimacs", "-", "--names", PLANT], &plant.printed);
-    let bytes = optbook(&["bytes", "-"], &back.printed).printed;
-    assert_eq!(bytes, optbook(&["bytes", PLANT], b"").printed);
+    let bytes = optbook(&["bytes", PLANT], b"").printed;
+    let text = optbook(&["text", "-", "--names", PLANT], &bytes);
+    assert_eq!(back.text(), text.text().replace("standard: leachate_tank", "leachate_tank"));
+}
+
+#[test]
+fn the_wishes_in_dimacs_are_those_of_the_completed_order() {
+    let ended = optbook(&["dimacs", "-"], b"options: a b c\nstandard: a b c\nb\nwithout: b\n");
+    assert!(ended.text().ends_with("p cnf 3 4\n2 0\n1 0\n-2 0\n3 0\n"), "{}", ended.text());
 }
 
 #[test]
@@ -54,6 +66,11 @@ fn a_mistake_is_told_once_with_file_line_and_what_was_expected() {
         assert_eq!((ended.said.as_str(), ended.status), (due, 65), "{verb}");
         assert!(ended.printed.is_empty());
     }
+    let ended = optbook(&["bytes", PLANT, "-"], b"standard: roof leachate_tank\n");
+    let due =
+        "optbook: standard input: line 1: `leachate_tank` stands twice as standard: expected \
+               it once\n";
+    assert_eq!((ended.said.as_str(), ended.status), (due, 65));
     let ended = optbook(&["from-dimacs", "-"], b"p cnf 65 0\n");
     let due = "optbook: standard input: line 1: 65 variables: expected at most 64\n";
     assert_eq!((ended.said.as_str(), ended.status), (due, 65));
@@ -71,10 +88,15 @@ fn what_cannot_be_read_is_told_with_its_file() {
 
 #[test]
 fn bytes_that_are_no_book_are_told() {
-    let ended = optbook(&["text", "-"], &[0; 18]);
-    let due = "optbook: standard input: an order and a book take 19 bytes or more, not 18\n";
+    let ended = optbook(&["text", "-"], &[0; 26]);
+    let due = "optbook: standard input: an order and a book take 27 bytes or more, not 26\n";
     assert_eq!((ended.said.as_str(), ended.status), (due, 65));
-    let ended = optbook(&["text", "-", "--names", PLANT], &[0; 19]);
+    let mut above = [0; 27];
+    above[16] = 1;
+    let ended = optbook(&["text", "-"], &above);
+    let due = "optbook: standard input: a standard option is above 0\n";
+    assert_eq!((ended.said.as_str(), ended.status), (due, 65));
+    let ended = optbook(&["text", "-", "--names", PLANT], &[0; 27]);
     let due = "optbook: examples/plant.book: 12 names: expected 0\n";
     assert_eq!((ended.said.as_str(), ended.status), (due, 65));
 }

@@ -31,6 +31,28 @@ fn the_marked_book_w_has_its_derived_rules_and_its_record() {
 }
 
 #[test]
+fn a_standard_option_is_taken_as_wanted_unless_the_order_is_without_it() {
+    let status = |order: &str| {
+        let text = format!("options: a b\n!a | !b\nstandard: a\n{order}");
+        optbook(&["check", "-"], text.as_bytes()).status
+    };
+    assert_eq!([status(""), status("want: a\n"), status("without: a\n")], [0, 0, 0]);
+    assert_eq!([status("want: b\n"), status("want: a b\n")], [1, 1]);
+    assert_eq!([status("want: b\nwithout: a\n"), status("standard: b\nwithout: a\n")], [0, 0]);
+    assert_eq!(status("standard: b\n"), 1);
+}
+
+/// Refusal 12 has no text: each standard option is a name of the book.
+#[test]
+fn every_option_of_a_text_may_be_standard() {
+    let names = optbook::text::numbered_names(64).join(" ");
+    let text = format!("options: {names}\nx64\nstandard: {names}\n");
+    assert_eq!(optbook(&["check", "-"], text.as_bytes()).status, 0);
+    let ended = optbook(&["check", "-"], format!("{text}standard: x65\n").as_bytes());
+    assert_eq!(ended.status, 65, "{}", ended.said);
+}
+
+#[test]
 fn limits_stop_or_are_refused() {
     let book = b"options: a\na\n!a\n";
     let ended = optbook(&["check", "-", "--allowance", "0"], book);
@@ -90,6 +112,40 @@ fn where_the_book_alone_cannot_be_kept_no_wish_is_blamed() {
 }
 
 #[test]
+fn a_standard_option_is_explained_like_a_wish() {
+    let book = b"options: a b c\nstandard: c a\n!a | !b\nwant: b\n";
+    let ended = optbook(&["explain", "-"], book);
+    let lines: Vec<&str> = ended.text().lines().skip(2).collect();
+    let due = [
+        "options: a b",
+        "standard: a  # standard input: line 2",
+        "!a | !b      # standard input: line 3",
+        "want: b      # standard input: line 4",
+    ];
+    assert_eq!((lines.as_slice(), ended.status), (&due[..], 1));
+    assert_eq!(optbook(&["check", "-"], &ended.printed).status, 1);
+}
+
+/// The order is without the standard option a, so that a plays no part, whatever is left out.
+#[test]
+fn a_standard_option_that_is_unwanted_is_no_reason() {
+    let book = b"options: a b\nstandard: a\n!a\nb\n!b\nwithout: a\n";
+    let ended = optbook(&["explain", "-"], book);
+    let lines: Vec<&str> = ended.text().lines().skip(2).collect();
+    let due = ["options: b", "b   # standard input: line 4", "!b  # standard input: line 5"];
+    assert_eq!(lines, due);
+}
+
+#[test]
+fn an_option_that_is_wanted_and_standard_is_explained_by_its_wish() {
+    let ended = optbook(&["explain", "-"], b"options: a\nstandard: a\n!a\nwant: a\n");
+    let due = "options: a\n\
+               !a       # standard input: line 3\n\
+               want: a  # standard input: line 4\n";
+    assert!(ended.text().ends_with(due), "{}", ended.text());
+}
+
+#[test]
 fn an_empty_rule_is_its_own_explanation() {
     let ended = optbook(&["explain", "-"], b"options: a\na\nfalse\nwant: a\n");
     assert!(ended.text().ends_with("options: \nfalse  # standard input: line 3\n"));
@@ -136,14 +192,15 @@ fn what_is_said_of_small_books_is_what_all_choices_show() {
 
 fn can_be_kept(text: &str) -> bool {
     let sheet = Sheet::of("text", text).unwrap();
-    let (book, order) = (sheet.book(), sheet.order());
+    let (book, order) = (sheet.book(), sheet.order().completed());
     (0..1 << book.options).any(|choice: u64| {
         let wishes = order.wanted & !choice == 0 && order.unwanted & choice == 0;
         wishes && book.rules.iter().all(|rule| rule.is_kept_by(choice))
     })
 }
 
-/// A book of five options, twelve rules of two or three entries, and two wishes.
+/// A book of five options, a standard one, twelve rules of two or three entries, and two wishes, of
+/// which one may be for the standard option.
 fn small_book(number: u64) -> String {
     let mut state = number;
     let mut next = |below: u64| {
@@ -152,6 +209,7 @@ fn small_book(number: u64) -> String {
     };
     let names = ["a", "b", "c", "d", "e"];
     let mut text = format!("options: {}\n", names.join(" "));
+    text += &format!("standard: {}\n", names[next(5) as usize]);
     for _ in 0..12 {
         let start = next(5);
         let entries: Vec<String> = (0..2 + next(2))

@@ -7,10 +7,10 @@ use native.Mathlib.Omega.{arith}
 use borrow.Author.Needs.{needs}
 use Rattle.steps.specs.Clause.{Clause}
 use Rattle.steps.specs.Run.{Assumptions, given}
+use Rattle.order.specs.Values.{assumptionsOf}
 use Rattle.rows.specs.Rows.{clauses}
-use Rattle.book.specs.Order.{unitsOf}
-use Rattle.book.specs.Values.{assumptionsOf}
-use Rattle.book.proofs.Units.{units-sides, length-units}
+use Rattle.book.specs.Units.{unitsOf}
+use Rattle.book.proofs.UnitClauses.{units-sides, length-units}
 use Rattle.book.proofs.Putting.{more-clauses}
 use Rattle.book.proofs.Book.assume.Statement.{statement}
 use Rattle.book.proofs.Book.assume.Tie as tie

@@ -1,12 +1,12 @@
 -- `checker::decide::decide` meets its contract: with the order's clauses the table has what is given, within the room for the largest run, and the run on it is the
 -- definition's (`Working`). Assumes nothing.
-use mathlib.Core.Path.{_≡_, subst, _∙_}
+use mathlib.Core.Path.{subst}
 use native.Mathlib.Omega.{arith}
 use Prim.Native.Nat.{_+_, _≤_}
 use Rattle.steps.specs.Run.{Outcome, given}
 use Rattle.rows.specs.Rows.{clauses}
 use Rattle.book.specs.Limits.{maxVars, maxClauses}
-use Rattle.book.specs.Values.{assumptionsOf}
+use Rattle.order.specs.Values.{assumptionsOf}
 use Rattle.search.specs.Values.{Handed}
 use Rattle.checker.proofs.Working.{book-few, given-count, given-few, given-are-proper, run-is}
 use borrow.Author.Needs.{needs}

@@ -1,4 +1,4 @@
--- The clauses of an order, one sign at a time.
+-- The clauses of a completed order, one sign at a time.
 use mathlib.Core.Bool.{Bool, true, false, not}
 use mathlib.Core.List.{List, map}
 use Prim.Native.Nat.{ℕ}

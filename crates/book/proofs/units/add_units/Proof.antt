@@ -1,4 +1,4 @@
--- `book::order::add_units` meets its contract. The loop's invariant: the clauses in the table, with those for the members of `rest` after them, are those
+-- `book::units::add_units` meets its contract. The loop's invariant: the clauses in the table, with those for the members of `rest` after them, are those
 -- that were asked for. The measure is how many members are left.
 use mathlib.Core.Path.{_≡_, refl, sym, ap, _∙_}
 use mathlib.Core.Bool.{Bool}
@@ -12,11 +12,11 @@ use Rattle.words.proofs.Sets.{nonzero}
 use Rattle.steps.specs.Clause.{Clause}
 use Rattle.rows.specs.Rows.{clauseWords, clauses, putClause}
 use Rattle.rows.proofs.Tables.{clauses-length, put-clause-length}
-use Rattle.book.specs.Order.{unitOf, unitsOf}
-use Rattle.book.proofs.Units.{unitsOf-zero, unitsOf-step}
+use Rattle.book.specs.Units.{unitOf, unitsOf}
+use Rattle.book.proofs.UnitClauses.{unitsOf-zero, unitsOf-step}
 use Rattle.book.proofs.Putting.{put-next}
-use Rattle.book.proofs.order.add_units.Statement.{statement}
-use Rattle.book.proofs.order.add_units.Tie as tie
+use Rattle.book.proofs.units.add_units.Statement.{statement}
+use Rattle.book.proofs.units.add_units.Tie as tie
 
 -- the clauses in the table and those still to come
 abbrev all : List ℕ → ℕ → Bool → ℕ → List Clause

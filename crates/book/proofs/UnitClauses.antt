@@ -11,7 +11,7 @@ use Rattle.words.proofs.Sets.{is-zero}
 use Rattle.words.proofs.Lowest.{lowest-is, members-zero, members-step}
 use Rattle.words.proofs.Count.{ones-zero, ones-remove}
 use Rattle.steps.specs.Run.{Assumptions, units}
-use Rattle.book.specs.Order.{unitOf, unitsOf}
+use Rattle.book.specs.Units.{unitOf, unitsOf}
 
 -- the order's clauses are those for its wanted variables, then those for its unwanted ones
 pub units-sides : (o : Assumptions) → units o ≡ unitsOf true (o .pos) ++ unitsOf false (o .neg)

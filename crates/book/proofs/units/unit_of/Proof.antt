@@ -1,8 +1,8 @@
--- `book::order::unit_of` meets its contract: each sign is a case of the definition.
+-- `book::units::unit_of` meets its contract: each sign is a case of the definition.
 use mathlib.Core.Path.{sym, ap}
-use Rattle.book.specs.Order.{unitOf}
-use Rattle.book.proofs.order.unit_of.Statement.{statement}
-use Rattle.book.proofs.order.unit_of.Tie as tie
+use Rattle.book.specs.Units.{unitOf}
+use Rattle.book.proofs.units.unit_of.Statement.{statement}
+use Rattle.book.proofs.units.unit_of.Tie as tie
 
 returns : tie.Need-returns
 returns c = sym (ap (λ b. unitOf b (c .before .args .word)) (c .if1 .taken))

@@ -1,34 +1,13 @@
-// The order: refusals 7 and 8, and its clauses, one of one literal for each wanted or unwanted variable.
+// The clauses of a completed order, one of one literal for each wanted or unwanted variable.
 ghost use mathlib.Core.Path.{_≡_};
-ghost use mathlib.Core.List.{List, _++_};
-ghost use Prim.Native.Nat.{ℕ, _+_, _≤_};
+ghost use mathlib.Core.List.{_++_};
+ghost use Prim.Native.Nat.{_+_, _≤_};
 ghost use lib.ListN.{length};
 ghost use Rattle.rows.specs.Rows.{clauseWords, clauses as Clauses};
 ghost use Rattle.rows.specs.Values.{clauseOf};
-ghost use Rattle.book.specs.Reading.{readOrder};
-ghost use Rattle.book.specs.Values.{assumptionsOf, readingOf};
-ghost use Rattle.book.specs.Order.{unitOf, unitsOf};
-use crate::Assumptions;
-use crate::Book;
-use crate::Reading;
-use crate::judge::names_above;
+ghost use Rattle.book.specs.Units.{unitOf, unitsOf};
 use rows::clause::Clause;
 use rows::table;
-
-// The refusal of an order to a book, or the book, whatever its clauses are.
-pub fn judge_order(b: Book, o: Assumptions) -> Reading
-    ensures { λ r. ⌜ ((t : List ℕ) → readingOf r t ≡ readOrder (b .vars) (Clauses t (b .clauses)) (assumptionsOf o)) ⌝ }
-{
-    let above = names_above(b.vars, o.pos, o.neg);
-    let both = words::meets(o.pos, o.neg);
-    if above {
-        return Reading::Refused(7);
-    }
-    if both {
-        return Reading::Refused(8);
-    }
-    Reading::Book(b)
-}
 
 // The clause of one literal, a positive one for true.
 fn unit_of(positive: bool, word: u64) -> Clause

@@ -1,0 +1,3 @@
+-- Laws of a completed order, and the proofs of the demands.
+pub mod Completed
+pub mod Demands

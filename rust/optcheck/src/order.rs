@@ -1,0 +1,42 @@
+//! An order, and what completes it.
+
+/// The wanted, the unwanted and the standard options, as sets: option k stands at bit k - 1. A
+/// standard option comes unless it is unwanted.
+#[derive(Clone, Copy, Debug, Default, PartialEq, Eq)]
+pub struct Order {
+    pub wanted: u64,
+    pub unwanted: u64,
+    pub standard: u64,
+}
+
+impl Order {
+    /// The order that a check is about: each standard option that is not unwanted is wanted, and
+    /// no standard ones are left. An option that is in neither of its two sets is free.
+    pub fn completed(self) -> Order {
+        let Order { wanted, unwanted, standard } = self;
+        Order { wanted: wanted | (standard & !unwanted), unwanted, standard: 0 }
+    }
+}
+
+#[cfg(test)]
+mod tests {
+    use super::*;
+
+    fn completed(wanted: u64, unwanted: u64, standard: u64) -> (u64, u64, u64) {
+        let Order { wanted, unwanted, standard } = Order { wanted, unwanted, standard }.completed();
+        (wanted, unwanted, standard)
+    }
+
+    #[test]
+    fn a_standard_option_is_wanted_unless_it_is_unwanted() {
+        assert_eq!(completed(0b0001, 0b0010, 0b1110), (0b1101, 0b0010, 0));
+        assert_eq!(completed(0, 0, 1 << 63), (1 << 63, 0, 0));
+        assert_eq!(completed(0, u64::MAX, u64::MAX), (0, u64::MAX, 0));
+    }
+
+    #[test]
+    fn wanted_options_stay_wanted_and_nothing_standard_changes_nothing() {
+        assert_eq!(completed(0b11, 0b100, 0b01), (0b11, 0b100, 0));
+        assert_eq!(completed(0b01, 0b10, 0), (0b01, 0b10, 0));
+    }
+}
