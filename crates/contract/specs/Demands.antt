@@ -1,7 +1,8 @@
 -- The demands on a check, each as a named type that is proved in `proofs/`. The record at the end has them all; docs/STEPS.md says how to read the signs
 -- ("Signs"). `check bytes o allowance l` is the definition, for book bytes, an order, a branching allowance and the lengths l of the five lent tables. It is
--- `refused k`, or `ran r` with the outcome r of the steps, which go by the completed order (`complete o`, crate `order`). The code's answer is `answerOf` of it, and its tables are `filled` by it. Bytes, words, allowance and
--- lengths are any numbers. What the steps do, and what book and order mean, is said in crate `steps`; the conditions of the refusals in crate `book`.
+-- `refused k`, or `ran r` with the outcome r of the steps, which go by the completed order (`complete o`, crate `order`). The code's answer is `answerOf` of it,
+-- and its tables are `filled` by it. Bytes, words, allowance and lengths are any numbers. What the steps do, and what book and order mean, is said in crate
+-- `steps`; the conditions of the refusals in crate `book`.
 use mathlib.Core.Path.{_≡_}
 use mathlib.Core.List.{List, [], _∷_, _++_, map}
 use mathlib.Core.Logic.{_⊎_, _↔_}
