@@ -12,7 +12,7 @@ use Rattle.rows.proofs.Lists.{from-snoc, from-length}
 use Rattle.contract.specs.Filled.{written}
 
 -- a store at the next place
-written-more : (ws t : List ℕ) (x : ℕ) → length ws < length t → set (written ws t) (length ws) x ≡ written (ws ++ (x ∷ [])) t
+pub written-more : (ws t : List ℕ) (x : ℕ) → length ws < length t → set (written ws t) (length ws) x ≡ written (ws ++ (x ∷ [])) t
 written-more ws t x h =
     ap (λ (l : List ℕ). set (ws ++ l) (length ws) x) (drop-cons t (length ws) 0 h)
     ∙ set-at ws _ (drop (suc (length ws)) t) x (length ws) refl
@@ -20,7 +20,7 @@ written-more ws t x h =
     ∙ ap (λ (n : ℕ). (ws ++ (x ∷ [])) ++ drop n t) (sym (length-append ws (x ∷ []) ∙ add-one (length ws)))
 
 -- the length stays
-written-length : (ws t : List ℕ) → length ws ≤ length t → length (written ws t) ≡ length t
+pub written-length : (ws t : List ℕ) → length ws ≤ length t → length (written ws t) ≡ length t
 written-length ws t h = length-append ws (drop (length ws) t) ∙ omega (arith, length-drop (length ws) t)
 
 -- the words of i elements, from the one at m on

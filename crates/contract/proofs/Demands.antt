@@ -1,6 +1,6 @@
 -- The demands on a check. A check that was run passed every row, so its outcome is that of a run of an input of the steps, and demands 2 and 3 are those of the
 -- steps.
-use mathlib.Core.Path.{_≡_, refl, sym, ap, ap₂, subst, _∙_}
+use mathlib.Core.Path.{_≡_, refl, sym, ap, ap₂, subst, subst⁻¹, _∙_}
 use mathlib.Core.Logic.{inl, inr, ⊎-elim}
 use mathlib.Core.List.{List}
 use mathlib.Core.Option.{none}
@@ -29,10 +29,11 @@ use Rattle.book.proofs.RoundTrip.{read-written}
 use Rattle.answer.specs.Answer.{tallyOf, endOf}
 use Rattle.answer.specs.Packed.{Packable}
 use Rattle.answer.specs.declared.Tally.{Tally}
+use Rattle.answer.specs.declared.Answer.{Answer}
 use Rattle.answer.specs.declared.Answer.the-variants.{Can, Cannot}
 use Rattle.answer.proofs.Ending.{tally-told, number-few}
 use Rattle.contract.specs.Check.{Lengths, Result, Result.refused, Result.ran, outcome, check}
-use Rattle.contract.specs.Filled.{answerOf}
+use Rattle.contract.specs.Filled.{Tables, lengths, answerOf, Checked}
 use Rattle.contract.specs.Demands.{answer, Permitted, Named, Answers, AnswersFit, LimitsPass, Tells, Outcomes, Settled, StopsOnBranchings, StopsOnPlaces, withPlaces, Buys, DerivedBegin, IsVerdict, Bound, Demands}
 use Rattle.contract.proofs.Examples.{one-run}
 use Rattle.contract.proofs.Checking.{refusals, runs, numbered, ran-passed, admitted-ran}
@@ -82,6 +83,11 @@ answers-fit bytes o allowance l h = go (check bytes o allowance l) refl
           derived = omega (arith, ap (λ (c : Tally). c .derived) told, spent .no-more-clauses, few);
           records = omega (arith, ap (λ (c : Tally). c .records) told, ran-records bytes o allowance l r e);
         }
+
+-- so does the answer of the code
+pub checked-fits :
+    (bytes : List ℕ) (o : Order) (allowance : ℕ) (before after : Tables) (r : Answer) → Checked bytes o allowance before r after → allowance < 2 ^ 32 → Packable r
+checked-fits bytes o allowance before after r checked h = subst⁻¹ Packable (checked .answer) (answers-fit bytes o allowance (lengths before) h)
 
 -- ---- the limits
 

@@ -19,7 +19,7 @@ use Rattle.book.specs.Bytes.{varsIn, rulesIn}
 use Rattle.book.specs.Refusals.{firstRow, admitRows}
 use Rattle.book.proofs.Accepted.{none-admitted}
 use Rattle.answer.specs.Answer.{tallyOf}
-use Rattle.contract.specs.Check.{Lengths, Result, Result.ran, check}
+use Rattle.contract.specs.Check.{Lengths, Result, Result.refused, Result.ran, check}
 use Rattle.contract.specs.Filled.{Tables, lengths, written, filled}
 use Rattle.contract.specs.Demands.{Permitted, Untouched, firstPlaces, laterPlaces, tablesOf, Fills, Filling, NoPart}
 use Rattle.contract.proofs.Checking.{ran-passed, runs, same-check}
@@ -42,7 +42,7 @@ module _ (k : ℕ) (ws t : List ℕ) (e : length ws ≡ k) where
 -- ---- five tables
 
 -- tables with the same contents are the same
-tables-equal :
+pub tables-equal :
     {p p′ q q′ x x′ y y′ z z′ : List ℕ} → p ≡ p′ → q ≡ q′ → x ≡ x′ → y ≡ y′ → z ≡ z′ →
     _≡_ {A = Tables}
     (record { pos = p; neg = q; decided = x; trues = y; redundant = z })
@@ -50,7 +50,7 @@ tables-equal :
 tables-equal p q x y z = cc
 
 -- and so are equal lengths
-lengths-equal :
+pub lengths-equal :
     {p p′ q q′ x x′ y y′ z z′ : ℕ} → p ≡ p′ → q ≡ q′ → x ≡ x′ → y ≡ y′ → z ≡ z′ →
     _≡_ {A = Lengths}
     (record { pos = p; neg = q; decided = x; trues = y; redundant = z })
@@ -152,6 +152,14 @@ filling bytes o allowance t h = ran-fills bytes o allowance t _ (runs bytes o al
 pub untouched : Untouched
 unfolding filled
 untouched bytes o allowance t k e = rw e
+
+-- no check changes a length
+pub checked-lengths : (bytes : List ℕ) (o : Order) (allowance : ℕ) (t : Tables) → lengths (filled (check bytes o allowance (lengths t)) t) ≡ lengths t
+checked-lengths bytes o allowance t = go (check bytes o allowance (lengths t)) refl
+  where
+    go : (x : Result) → check bytes o allowance (lengths t) ≡ x → lengths (filled (check bytes o allowance (lengths t)) t) ≡ lengths t
+    go (refused k) e = ap lengths (untouched bytes o allowance t k e)
+    go (ran r) e = ran-fills bytes o allowance t r e .same-lengths
 
 -- ---- what plays no part
 

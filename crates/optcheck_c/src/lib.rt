@@ -1,5 +1,7 @@
-// The check for C and Rust: one exported function on numbers and slices (rust/optcheck/include/optcheck.h is its header).
+// The check and the morning for C and Rust: exported functions on numbers and slices (rust/optcheck/include/optcheck.h is their header).
+ghost use mathlib.Core.Path.{_≡_};
 ghost use Rattle.contract.specs.Filled.{lent};
+ghost use Rattle.morning.specs.Morning.{morning as Morning};
 ghost use Rattle.optcheck_c.specs.Exported.{Exported};
 use order::Order;
 
@@ -26,4 +28,32 @@ pub extern "C" fn optcheck_check(
     };
     let found = checker::check(book, order, allowance, pos, neg, decided, trues, redundant);
     answer::word_of(found)
+}
+
+// Serves a morning's orders (crate `serving`): 0, or 13 where nothing is changed.
+#[no_mangle]
+pub extern "C" fn optcheck_morning(
+    book: &[u8],
+    orders: &[u64],
+    allowance: u32,
+    answers: &mut [u64],
+    pos: &mut [u64],
+    neg: &mut [u64],
+    decided: &mut [u64],
+    trues: &mut [u64],
+    redundant: &mut [u64],
+) -> u32
+    ensures { λ r. ⌜ record { number = r; answers = now (answers .exit); tables = lent (now (pos .exit)) (now (neg .exit)) (now (decided .exit)) (now (trues .exit)) (now (redundant .exit)) } ≡ Morning (now (book .entry)) (now (orders .entry)) allowance (now (answers .entry)) (lent (now (pos .entry)) (now (neg .entry)) (now (decided .entry)) (now (trues .entry)) (now (redundant .entry))) ⌝ }
+{
+    serving::morning(
+        book,
+        orders,
+        allowance,
+        answers,
+        pos,
+        neg,
+        decided,
+        trues,
+        redundant,
+    )
 }

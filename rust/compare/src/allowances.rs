@@ -112,7 +112,7 @@ fn try_pair(
 
 /// The checker's outcome is the one that is due.
 fn compare(make: Make, rubbish: u64, check: &Check, due: &Outcome) -> Result<(), String> {
-    let (due, printed) = (due.to_string(), make(rubbish).printed(check)?);
+    let (due, printed) = (due.to_string(), make(rubbish).printed(&check.clone().into())?);
     match printed == due {
         true => Ok(()),
         false => Err(first_difference(&printed, &due)),
@@ -155,6 +155,7 @@ fn keeps_demand_three(
 #[cfg(test)]
 mod tests {
     use super::*;
+    use crate::question::Question;
     use crate::under_test::Port;
 
     /// A checker made of a function on the check.
@@ -165,12 +166,15 @@ mod tests {
             "made".to_string()
         }
 
-        fn takes(&self, _: &Check) -> bool {
-            true
+        fn takes(&self, question: &Question) -> bool {
+            matches!(question, Question::Check(_))
         }
 
-        fn printed(&mut self, check: &Check) -> Result<String, String> {
-            Ok((self.0)(check).to_string())
+        fn printed(&mut self, question: &Question) -> Result<String, String> {
+            match question {
+                Question::Check(check) => Ok((self.0)(check).to_string()),
+                _ => Err("no check".to_string()),
+            }
         }
     }
 

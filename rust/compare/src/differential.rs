@@ -4,7 +4,7 @@
 
 use crate::choices;
 use crate::kinds::{self, Case, Kind, KINDS};
-use crate::question::{first_difference, Check};
+use crate::question::{ending_name, first_difference, Check, Question};
 use crate::under_test::UnderTest;
 use optbook::bytes::read_input;
 use optbook::{Book, Order, OPTIONS};
@@ -37,7 +37,7 @@ pub fn run(
     for number in 0..books {
         let case = kinds::case(seed, number);
         let mut all = vec![case.check.clone()];
-        if tested.takes(&case.check.with_limits(Places::equal(0, 64), 0)) {
+        if tested.takes(&case.check.with_limits(Places::equal(0, 64), 0).into()) {
             all.extend(tight_checks(&case.check));
         }
         for check in all {
@@ -58,12 +58,13 @@ fn compare(
     tally: &mut Tally,
 ) -> Result<(), String> {
     let check = &case.check;
-    if !tested.takes(check) {
+    let question = Question::from(check.clone());
+    if !tested.takes(&question) {
         tally.not_taken += 1;
         return Ok(());
     }
     let outcome = check.port_outcome();
-    let (due, printed) = (outcome.to_string(), tested.printed(check)?);
+    let (due, printed) = (outcome.to_string(), tested.printed(&question)?);
     if printed != due {
         return Err(told_apart(&tested.name(), &printed, &due));
     }
@@ -161,13 +162,8 @@ fn told(case: &Case) -> String {
 
 impl Tally {
     fn add(&mut self, kind: Kind, ending: Ending) {
-        let (word, number) = ending.named();
-        let ending = match number {
-            0 => word.to_string(),
-            _ => format!("{word} {number}"),
-        };
         let position = KINDS.iter().position(|&known| known == kind).expect("a known kind");
-        *self.endings.entry((position, ending)).or_default() += 1;
+        *self.endings.entry((position, ending_name(ending))).or_default() += 1;
         self.compared += 1;
     }
 
@@ -210,12 +206,18 @@ mod tests {
             "made".to_string()
         }
 
-        fn takes(&self, check: &Check) -> bool {
-            self.takes_limits || check.allowance == port::PROGRAM_ALLOWANCE
+        fn takes(&self, question: &Question) -> bool {
+            match question {
+                Question::Check(check) => self.takes_limits || check.is_of_program(),
+                _ => false,
+            }
         }
 
-        fn printed(&mut self, check: &Check) -> Result<String, String> {
-            Ok((self.change)(check.port_outcome()))
+        fn printed(&mut self, question: &Question) -> Result<String, String> {
+            match question {
+                Question::Check(check) => Ok((self.change)(check.port_outcome())),
+                _ => Err("no check".to_string()),
+            }
         }
     }
 

@@ -1,11 +1,12 @@
 //! The kinds of generated cases: whole books with an order, damaged bytes, and orders that are
 //! refused. Case number i of a seed is the same wherever it is made.
 
+use crate::orders::{above, contradictory, standard_above, with_standard};
 use crate::question::{Check, ORDER};
 use crate::random::Random;
 use crate::shapes;
 use optbook::bytes::{book_bytes, input_bytes};
-use optbook::{first, option, Book, Order};
+use optbook::{first, Book, Order};
 
 #[derive(Clone, Copy, Debug, PartialEq, Eq)]
 pub enum Kind {
@@ -115,7 +116,7 @@ fn order_and_book(random: &mut Random, kind: Kind) -> (Order, Book) {
 }
 
 /// A book, and an order without standard options that is not refused.
-fn wishes_and_book(random: &mut Random, kind: Kind) -> (Order, Book) {
+pub fn wishes_and_book(random: &mut Random, kind: Kind) -> (Order, Book) {
     match kind {
         Kind::OptionBook => {
             let options = random.between(6, 64);
@@ -160,58 +161,11 @@ fn all_rules(random: &mut Random) -> (Order, Book) {
     (order, book)
 }
 
-/// A book of 1 to 63 options, so that there are options above it.
+/// A book of 1 to 63 options and some rules, so that there are options above it.
 fn some_option_book(random: &mut Random) -> (Order, Book) {
     let options = random.between(1, 63);
     let book = shapes::option_book(random, options);
     (shapes::order(random, options, 6), book)
-}
-
-/// The order with standard options, in half of the cases: about half of its wanted and unwanted
-/// ones, and each option in one of so many cases.
-fn with_standard(random: &mut Random, order: Order, options: usize) -> Order {
-    if random.chance(1, 2) {
-        return order;
-    }
-    let one_of = random.between(2, 2 + options);
-    let mut standard = (order.wanted | order.unwanted) & random.word();
-    for index in 0..options {
-        if random.chance(1, one_of) {
-            standard |= option(index);
-        }
-    }
-    Order { standard, ..order }
-}
-
-/// The order with at least one option both wanted and unwanted; sometimes a standard option above n
-/// beside it, which counts later.
-fn contradictory(random: &mut Random, order: Order, options: usize) -> Order {
-    let both = option(random.below(options));
-    let order = match random.chance(1, 4) {
-        true => standard_above(random, order, options),
-        false => order,
-    };
-    Order { wanted: order.wanted | both, unwanted: order.unwanted | both, ..order }
-}
-
-/// The order with a standard option above n.
-fn standard_above(random: &mut Random, order: Order, options: usize) -> Order {
-    Order { standard: order.standard | option(random.between(options, 63)), ..order }
-}
-
-/// The order with an option above n; sometimes a contradiction or a standard option above n beside
-/// it, which count later.
-fn above(random: &mut Random, order: Order, options: usize) -> Order {
-    let far = option(random.between(options, 63));
-    let order = match random.below(4) {
-        0 => contradictory(random, order, options),
-        1 => standard_above(random, order, options),
-        _ => order,
-    };
-    match random.chance(1, 2) {
-        true => Order { wanted: order.wanted | far, ..order },
-        false => Order { unwanted: order.unwanted | far, ..order },
-    }
 }
 
 /// A book whose bytes were cut, lengthened or changed; the order before it is whole.

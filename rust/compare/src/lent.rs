@@ -1,5 +1,6 @@
 //! Tables to lend to the library, with rubbish at every place and more places after the lent ones,
-//! so that it shows what a check has written and that it has written nothing else.
+//! so that it shows what a check has written and that it has written nothing else. For a morning each
+//! table is cut into equal parts, and an order's part has its outcome.
 
 use optcheck::{Answer, Kind, Tables};
 use port::{Decisions, Ending, Outcome, Places, Record, Rule, CAN, CANNOT};
@@ -7,45 +8,54 @@ use port::{Decisions, Ending, Outcome, Places, Record, Rule, CAN, CANNOT};
 /// Places of each table after those that are lent: more than a derived table may have.
 const BEYOND: usize = 2049;
 
-/// A table: its places, and how many of them are lent.
+/// A table: its places, how many of them are lent, and the rubbish, another word at each place.
 struct Table {
     places: Vec<u64>,
     lent: usize,
+    rubbish: u64,
 }
 
-/// The five tables, and the rubbish in them, another word at each place.
+/// The five tables.
 pub struct Lent {
-    rubbish: u64,
     derived: [Table; 2],
     records: [Table; 3],
 }
 
 impl Table {
     fn new(lent: usize, rubbish: u64) -> Table {
-        Table { places: (0..lent + BEYOND).map(|i| rubbish ^ i as u64).collect(), lent }
+        Table { places: (0..lent + BEYOND).map(|i| rubbish ^ i as u64).collect(), lent, rubbish }
     }
 
     fn lend(&mut self) -> &mut [u64] {
         &mut self.places[..self.lent]
     }
 
-    /// So many places are lent, and the rubbish is still at every later one.
-    fn kept_after(&self, count: usize, rubbish: u64) -> Result<(), String> {
-        if self.lent < count {
-            return Err(format!("a count of {count} in a table of {}", self.lent));
+    /// The lent places are cut into as many equal parts as there are counts. The rubbish is still at
+    /// every place but the first ones of each part, as many as its count says.
+    fn keeps_all_but(&self, counts: &[usize]) -> Result<(), String> {
+        let part = self.lent.checked_div(counts.len()).unwrap_or(0);
+        if let Some(count) = counts.iter().find(|&&count| count > part) {
+            return Err(format!("a count of {count} in a table of {part}"));
         }
-        let changed = (count..self.places.len()).find(|&i| self.places[i] != rubbish ^ i as u64);
-        match changed {
-            Some(i) => Err(format!("place {i} was written, where {count} are counted")),
+        let after = |(index, &count): (usize, &usize)| index * part + count..(index + 1) * part;
+        let uncounted = counts.iter().enumerate().map(after);
+        let remainder = counts.len() * part..self.places.len();
+        let is_changed = |&i: &usize| self.places[i] != self.rubbish ^ i as u64;
+        match uncounted.chain([remainder]).flatten().find(is_changed) {
+            Some(i) => Err(format!("place {i} was written, which is not counted")),
             None => Ok(()),
         }
+    }
+
+    /// The place with this index in a part.
+    fn of_part(&self, (part, parts): (usize, usize), index: usize) -> u64 {
+        self.places[part * (self.lent / parts) + index]
     }
 }
 
 impl Lent {
     pub fn new(places: &Places, rubbish: u64) -> Lent {
         Lent {
-            rubbish,
             derived: places.derived.map(|length| Table::new(length, rubbish)),
             records: places.records.map(|length| Table::new(length, rubbish)),
         }
@@ -60,34 +70,79 @@ impl Lent {
 
     /// The outcome of an answer. It is an error if a place changed that is not counted.
     pub fn outcome(&self, answer: Answer) -> Result<Outcome, String> {
+        self.keep_all_but(&[answer])?;
+        Ok(self.outcome_of_part(answer, (0, 1)))
+    }
+
+    /// The outcomes of answers, each in its own part of the tables. It is an error if a place changed
+    /// that is not counted.
+    fn outcomes(&self, answers: &[Answer]) -> Result<Vec<Outcome>, String> {
+        self.keep_all_but(answers)?;
+        let outcome = |(part, &answer)| self.outcome_of_part(answer, (part, answers.len()));
+        Ok(answers.iter().enumerate().map(outcome).collect())
+    }
+
+    /// The rubbish is still at every place that these answers do not count in their parts.
+    fn keep_all_but(&self, answers: &[Answer]) -> Result<(), String> {
+        let derived: Vec<usize> = answers.iter().map(|answer| answer.derived).collect();
+        let records: Vec<usize> = answers.iter().map(|answer| answer.records).collect();
         for table in &self.derived {
-            table.kept_after(answer.derived, self.rubbish)?;
+            table.keeps_all_but(&derived)?;
         }
         for table in &self.records {
-            table.kept_after(answer.records, self.rubbish)?;
+            table.keeps_all_but(&records)?;
         }
+        Ok(())
+    }
+
+    fn outcome_of_part(&self, answer: Answer, part: (usize, usize)) -> Outcome {
         let ending = match answer.kind {
             Kind::Can => CAN,
             Kind::Cannot => CANNOT,
             Kind::Refused => Ending::Refused(answer.number),
             Kind::Stopped => Ending::Stopped(answer.number),
         };
-        Ok(Outcome {
+        Outcome {
             ending,
             branchings: answer.branchings,
-            derived: (0..answer.derived).map(|i| self.rule(i)).collect(),
-            records: (0..answer.records).map(|i| self.record(i)).collect(),
-        })
+            derived: (0..answer.derived).map(|i| self.rule(part, i)).collect(),
+            records: (0..answer.records).map(|i| self.record(part, i)).collect(),
+        }
     }
 
-    fn rule(&self, i: usize) -> Rule {
-        let [fitted, left_out] = self.derived.each_ref().map(|table| table.places[i]);
+    fn rule(&self, part: (usize, usize), i: usize) -> Rule {
+        let [fitted, left_out] = self.derived.each_ref().map(|table| table.of_part(part, i));
         Rule { fitted, left_out }
     }
 
-    fn record(&self, i: usize) -> Record {
-        let [decided, fitted, struck] = self.records.each_ref().map(|table| table.places[i]);
+    fn record(&self, part: (usize, usize), i: usize) -> Record {
+        let [decided, fitted, struck] = self.records.each_ref().map(|table| table.of_part(part, i));
         Record { decisions: Decisions { decided, fitted }, struck }
+    }
+}
+
+/// Lends tables of these lengths, and a place for the answer to each of so many orders, to a morning
+/// that gives 0 or the number of its refusal, and takes the outcomes out. It is an error if a place
+/// changed that is not counted; where it is refused, none may change, and no answer.
+pub fn morning(
+    places: &Places,
+    orders: usize,
+    rubbish: u64,
+    call: impl FnOnce(&mut [u64], Tables) -> u32,
+) -> Result<Result<Vec<Outcome>, u32>, String> {
+    let (mut lent, mut answers) = (Lent::new(places, rubbish), Table::new(orders, rubbish));
+    match call(answers.lend(), lent.tables()) {
+        0 => {
+            answers.keeps_all_but(&[orders]).map_err(|what| format!("answers: {what}"))?;
+            let answers: Vec<Answer> =
+                answers.lend().iter().map(|&word| Answer::of_word(word)).collect();
+            Ok(Ok(lent.outcomes(&answers)?))
+        }
+        refusal => {
+            answers.keeps_all_but(&[]).map_err(|what| format!("answers: {what}"))?;
+            lent.keep_all_but(&[])?;
+            Ok(Err(refusal))
+        }
     }
 }
 
@@ -121,7 +176,7 @@ mod tests {
         let mut lent = lent();
         lent.tables().redundant[65] = 0;
         let told = lent.outcome(answer(Kind::Can, 0, 1)).unwrap_err();
-        assert_eq!(told, "place 65 was written, where 1 are counted");
+        assert_eq!(told, "place 65 was written, which is not counted");
     }
 
     #[test]
@@ -129,12 +184,85 @@ mod tests {
         let mut lent = lent();
         lent.derived[0].places[2] = 0;
         let told = lent.outcome(answer(Kind::Can, 2, 0)).unwrap_err();
-        assert_eq!(told, "place 2 was written, where 2 are counted");
+        assert_eq!(told, "place 2 was written, which is not counted");
     }
 
     #[test]
     fn a_count_stays_within_its_table() {
         let told = lent().outcome(answer(Kind::Can, 3, 0)).unwrap_err();
         assert_eq!(told, "a count of 3 in a table of 2");
+    }
+
+    /// What is done to a morning's answers and tables.
+    type Change = fn(&mut [u64], Tables);
+
+    /// The word of `cannot` with 2 branchings, a derived rule and a record, and that of refusal 7.
+    const CANNOT_WORD: u64 = 1 + (2 << 8) + (1 << 40) + (1 << 52);
+    const SEVEN: u64 = 2 + 4 * 7;
+
+    /// Two orders with tables of lengths 5, 4, 130, 128 and 200: the parts have 2, 2, 65, 64 and 100
+    /// places. The first is refused; the second has a rule and a record. Then a change is made.
+    fn two_orders(change: Change) -> Result<String, String> {
+        let places = Places { derived: [5, 4], records: [130, 128, 200] };
+        let outcomes = morning(&places, 2, RUBBISH, |answers, mut tables| {
+            answers.copy_from_slice(&[SEVEN, CANNOT_WORD]);
+            (tables.pos[2], tables.neg[2]) = (1, 2);
+            let Tables { decided, trues, redundant, .. } = &mut tables;
+            (decided[65], trues[64], redundant[100]) = (12, 4, 3);
+            change(answers, tables);
+            0
+        });
+        outcomes.map(|outcomes| crate::question::in_turn(&outcomes))
+    }
+
+    #[test]
+    fn an_orders_outcome_stands_in_its_own_part() {
+        let due = "refused 7 0 0 0\ncannot 0 2 1 1\nd 1 2\nr 12 4 3\n";
+        assert_eq!(two_orders(|_, _| ()), Ok(due.to_string()));
+    }
+
+    #[test]
+    fn every_place_that_no_order_counts_is_looked_at() {
+        let changes: [(Change, usize); 5] = [
+            // The part of the order that is refused, the uncounted places of the other's part, and
+            // the remainder.
+            (|_, tables| tables.neg[0] = 0, 0),
+            (|_, tables| tables.decided[64] = 0, 64),
+            (|_, tables| tables.pos[3] = 0, 3),
+            (|_, tables| tables.redundant[199] = 0, 199),
+            (|_, tables| tables.pos[4] = 0, 4),
+        ];
+        for (change, place) in changes {
+            let due = format!("place {place} was written, which is not counted");
+            assert_eq!(two_orders(change), Err(due));
+        }
+    }
+
+    #[test]
+    fn a_count_stays_within_its_part() {
+        let full = |answers: &mut [u64], _: Tables| answers[1] = CANNOT_WORD + (2 << 40);
+        assert_eq!(two_orders(full), Err("a count of 3 in a table of 2".to_string()));
+    }
+
+    #[test]
+    fn a_refused_morning_leaves_tables_and_answers() {
+        let refused = |change: Change| {
+            let call = |answers: &mut [u64], tables: Tables| {
+                change(answers, tables);
+                13
+            };
+            morning(&Places::equal(17, 17 * 64), 17, RUBBISH, call)
+        };
+        assert_eq!(refused(|_, _| ()), Ok(Err(13)));
+        let told = refused(|answers, _| answers[16] = 0).unwrap_err();
+        assert_eq!(told, "answers: place 16 was written, which is not counted");
+        let told = refused(|_, tables| tables.trues[0] = 0).unwrap_err();
+        assert_eq!(told, "place 0 was written, which is not counted");
+        let none = morning(&Places::equal(4, 64), 0, RUBBISH, |answers, tables| {
+            assert!(answers.is_empty());
+            tables.neg[3] = 0;
+            13
+        });
+        assert_eq!(none.unwrap_err(), "place 3 was written, which is not counted");
     }
 }

@@ -1,7 +1,7 @@
 //! The proved static library as a checker.
 
-use crate::lent::Lent;
-use crate::question::Check;
+use crate::lent::{self, Lent};
+use crate::question::{in_turn, Check, Morning, Question};
 use crate::under_test::UnderTest;
 
 /// The library, with this rubbish in the tables that it is lent.
@@ -14,15 +14,36 @@ impl UnderTest for Library {
         "proved library".to_string()
     }
 
-    /// The order is three words by type, so there is no short one.
-    fn takes(&self, check: &Check) -> bool {
-        check.parts().is_some()
+    /// An order is three words by type, so there is no short one.
+    fn takes(&self, question: &Question) -> bool {
+        match question {
+            Question::Check(check) => check.parts().is_some(),
+            Question::Morning(_) => true,
+        }
     }
 
-    fn printed(&mut self, check: &Check) -> Result<String, String> {
+    fn printed(&mut self, question: &Question) -> Result<String, String> {
+        match question {
+            Question::Check(check) => self.check(check),
+            Question::Morning(morning) => self.morning(morning),
+        }
+    }
+}
+
+impl Library {
+    fn check(&self, check: &Check) -> Result<String, String> {
         let (order, book) = check.parts().ok_or("an order that is cut short")?;
         let mut lent = Lent::new(&check.places, self.rubbish);
         let answer = optcheck::check(book, order, check.allowance, lent.tables());
         Ok(lent.outcome(answer)?.to_string())
+    }
+
+    fn morning(&self, morning: &Morning) -> Result<String, String> {
+        let Morning { book, orders, places, allowance } = morning;
+        let words: Vec<u64> = orders.iter().flat_map(|order| order.words()).collect();
+        let outcomes = lent::morning(places, orders.len(), self.rubbish, |answers, tables| {
+            optcheck::morning_words(book, &words, *allowance, answers, tables)
+        })?;
+        Ok(in_turn(&outcomes))
     }
 }

@@ -6,6 +6,7 @@ mod allowances;
 mod bench;
 mod choices;
 mod differential;
+mod fields;
 mod framed;
 mod hex;
 mod in_process;
@@ -14,6 +15,8 @@ mod kinds;
 mod lent;
 #[cfg(feature = "proved")]
 mod library;
+mod mornings;
+mod orders;
 mod outside;
 mod question;
 mod random;
@@ -30,7 +33,8 @@ use under_test::{Port, Program, UnderTest};
 
 const USAGE: &str = "\
 compare differential [--program PATH] [--seed S] [--books N] [--solver NAME]
-    generated books through the checker and the port, each verdict also by an outside solver
+    generated books and mornings through the checker and the port, each verdict on a book also by
+    an outside solver
 compare vectors FILE... [--program PATH]
     the cases of these files through the checker and the port
 compare allowances
@@ -40,7 +44,8 @@ compare tallies [--seed S] [--books N]
 compare framed FILE FOLDER
     the program's cases of a file as the test program `vectors` reads and writes them, in FOLDER
 compare bench [--seed S] [--solver NAME]
-    the same books through the checker, the port and outside solvers, as a table
+    the same books through the checker, the port and outside solvers, and mornings beside single
+    checks, as tables
 
 The checker is the program at PATH or, where compare is built with the feature `proved`, the library.
 The outside solver is the first installed of minisat, cadical and picosat, if NAME does not say.
@@ -114,6 +119,9 @@ fn differential(words: &Words) -> Result<(), String> {
     let outside = |order, book: &_| solver.can_be_built(order, book);
     let tally = differential::run(tested.as_mut(), &outside, seed, books)?;
     print!("{}", tally.told());
+    if let Some(tally) = mornings::run(tested.as_mut(), seed, mornings::beside(books))? {
+        print!("{}", tally.told());
+    }
     println!("no difference, in {:.1} s", start.elapsed().as_secs_f64());
     Ok(())
 }

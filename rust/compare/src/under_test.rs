@@ -1,7 +1,7 @@
 //! The checkers that are compared: a program that reads standard input and prints the outcome, the
 //! proved static library (library.rs), and the port.
 
-use crate::question::Check;
+use crate::question::Question;
 use std::io::{ErrorKind, Write};
 use std::process::{Command, Stdio};
 
@@ -9,11 +9,11 @@ use std::process::{Command, Stdio};
 pub trait UnderTest {
     fn name(&self) -> String;
 
-    /// The checker can be asked this check.
-    fn takes(&self, check: &Check) -> bool;
+    /// The checker can be asked this question.
+    fn takes(&self, question: &Question) -> bool;
 
-    /// The outcome of the check as the program prints it.
-    fn printed(&mut self, check: &Check) -> Result<String, String>;
+    /// The answer as it is printed.
+    fn printed(&mut self, question: &Question) -> Result<String, String>;
 }
 
 /// The independent implementation.
@@ -24,12 +24,12 @@ impl UnderTest for Port {
         "port".to_string()
     }
 
-    fn takes(&self, _: &Check) -> bool {
+    fn takes(&self, _: &Question) -> bool {
         true
     }
 
-    fn printed(&mut self, check: &Check) -> Result<String, String> {
-        Ok(check.port_outcome().to_string())
+    fn printed(&mut self, question: &Question) -> Result<String, String> {
+        Ok(question.port_printed())
     }
 }
 
@@ -43,13 +43,22 @@ impl UnderTest for Program {
         format!("program {}", self.path)
     }
 
-    /// A program has its own places and allowance.
-    fn takes(&self, check: &Check) -> bool {
-        check.is_of_program()
+    /// A program checks one order, with its own places and allowance.
+    fn takes(&self, question: &Question) -> bool {
+        standard_input(question).is_some()
     }
 
-    fn printed(&mut self, check: &Check) -> Result<String, String> {
-        run(&self.path, &check.input).map_err(|error| format!("{}: {error}", self.path))
+    fn printed(&mut self, question: &Question) -> Result<String, String> {
+        let input = standard_input(question).ok_or("a question that a program is not asked")?;
+        run(&self.path, input).map_err(|error| format!("{}: {error}", self.path))
+    }
+}
+
+/// The program's standard input, where the question is one that it answers.
+fn standard_input(question: &Question) -> Option<&[u8]> {
+    match question {
+        Question::Check(check) if check.is_of_program() => Some(&check.input),
+        Question::Check(_) | Question::Morning(_) => None,
     }
 }
 
@@ -71,32 +80,35 @@ fn run(path: &str, input: &[u8]) -> std::io::Result<String> {
 mod tests {
     use super::*;
     use crate::kinds::case;
+    use crate::mornings;
+    use crate::question::Check;
 
     #[test]
     fn a_program_gets_the_input_and_its_output_comes_back() {
         let mut echo = Program { path: "cat".to_string() };
         let check = Check::of_program(b"as it was".to_vec());
-        assert_eq!(echo.printed(&check), Ok("as it was".to_string()));
+        assert_eq!(echo.printed(&check.into()), Ok("as it was".to_string()));
     }
 
     #[test]
     fn a_program_that_reads_nothing_is_no_error() {
         let mut silent = Program { path: "true".to_string() };
-        assert_eq!(silent.printed(&case(1, 1).check), Ok(String::new()));
+        assert_eq!(silent.printed(&case(1, 1).check.into()), Ok(String::new()));
     }
 
     #[test]
     fn a_missing_program_is_named() {
         let mut missing = Program { path: "./no-such-program".to_string() };
-        let error = missing.printed(&case(1, 1).check).unwrap_err();
+        let error = missing.printed(&case(1, 1).check.into()).unwrap_err();
         assert!(error.starts_with("./no-such-program: "), "{error}");
     }
 
     #[test]
-    fn a_program_takes_its_own_limits_only() {
+    fn a_program_takes_its_own_limits_and_one_order_only() {
         let program = Program { path: "cat".to_string() };
         let own = case(1, 1).check;
-        assert!(program.takes(&own));
-        assert!(!program.takes(&own.with_limits(own.places, 3)));
+        assert!(!program.takes(&own.with_limits(own.places, 3).into()));
+        assert!(program.takes(&own.into()));
+        assert!(!program.takes(&mornings::morning(1, 1).into()));
     }
 }

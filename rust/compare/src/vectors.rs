@@ -3,30 +3,26 @@
 //! line that names it with its fields on the lines after it. Each checker must print the answer
 //! text for text.
 
-use crate::hex::bytes;
-use crate::question::{first_difference, Check};
+use crate::fields::key_and_value;
+use crate::question::{first_difference, Question};
 use crate::under_test::UnderTest;
-use optbook::bytes::input_bytes;
-use optbook::Order;
-use port::Places;
 use std::collections::BTreeMap;
 use std::fmt::Write;
 
 /// Questions of the format that no checker answers yet.
-const NOT_YET: [&str; 8] =
-    ["morning", "sites", "page", "desk", "join", "turns", "cheapest", "open"];
+const NOT_YET: [&str; 7] = ["sites", "page", "desk", "join", "turns", "cheapest", "open"];
 
 /// A case: its name, what is asked, and what must be printed.
 struct Vector {
     name: String,
-    question: Question,
+    asked: Asked,
     answer: String,
 }
 
 /// What is asked.
-enum Question {
-    Check(Check),
-    /// What is not known yet, in words.
+enum Asked {
+    Known(Question),
+    /// A question that is not known yet, by its name.
     NotYet(String),
 }
 
@@ -45,26 +41,24 @@ pub fn run(tested: &mut [Box<dyn UnderTest>], text: &str) -> Result<(Score, Stri
     let mut score = Score::default();
     let mut told = String::new();
     let mut not_asked: BTreeMap<String, Vec<String>> = BTreeMap::new();
-    for Vector { name, question, answer } in read(text)? {
-        let check = match question {
-            Question::Check(check) => check,
-            Question::NotYet(what) => {
+    for Vector { name, asked, answer } in read(text)? {
+        let question = match asked {
+            Asked::Known(question) => question,
+            Asked::NotYet(key) => {
                 score.skipped += 1;
-                not_asked
-                    .entry(format!("skipped, {what} is not known yet"))
-                    .or_default()
-                    .push(name);
+                let what = format!("skipped, `{key}` is not known yet");
+                not_asked.entry(what).or_default().push(name);
                 continue;
             }
         };
         let mut differs = false;
         for checker in tested.iter_mut() {
-            if !checker.takes(&check) {
+            if !checker.takes(&question) {
                 let what = format!("not asked of the {}", checker.name());
                 not_asked.entry(what).or_default().push(name.clone());
                 continue;
             }
-            let difference = match checker.printed(&check) {
+            let difference = match checker.printed(&question) {
                 Ok(printed) if printed == answer => continue,
                 Ok(printed) => first_difference(&printed, &answer),
                 Err(error) => error,
@@ -85,8 +79,10 @@ pub fn run(tested: &mut [Box<dyn UnderTest>], text: &str) -> Result<(Score, Stri
 
 /// The cases of a file whose question is standard input of the program: the input and the answer.
 pub fn program_cases(text: &str) -> Result<Vec<(Vec<u8>, String)>, String> {
-    let of_program = |vector: Vector| match vector.question {
-        Question::Check(check) if check.is_of_program() => Some((check.input, vector.answer)),
+    let of_program = |vector: Vector| match vector.asked {
+        Asked::Known(Question::Check(check)) if check.is_of_program() => {
+            Some((check.input, vector.answer))
+        }
         _ => None,
     };
     Ok(read(text)?.into_iter().filter_map(of_program).collect())
@@ -108,10 +104,10 @@ fn read(text: &str) -> Result<Vec<Vector>, String> {
                 }
             }
         };
-        let (asked, answer) = (up_to("out")?, up_to("end")?);
-        let question = question(&asked).map_err(|what| format!("case {name}: {what}"))?;
+        let (lines, answer) = (up_to("out")?, up_to("end")?);
+        let asked = asked(&lines).map_err(|what| format!("case {name}: {what}"))?;
         let answer = answer.iter().map(|line| format!("{line}\n")).collect();
-        vectors.push(Vector { name: name.to_string(), question, answer });
+        vectors.push(Vector { name: name.to_string(), asked, answer });
     }
     match vectors.is_empty() {
         true => Err("there is no case".to_string()),
@@ -119,55 +115,12 @@ fn read(text: &str) -> Result<Vec<Vector>, String> {
     }
 }
 
-/// The question of these lines.
-fn question(lines: &[&str]) -> Result<Question, String> {
-    let (first, fields) = lines.split_first().ok_or("there is no question")?;
-    match key_and_value(first) {
-        ("in", hex) if fields.is_empty() => Ok(Question::Check(Check::of_program(bytes(hex)?))),
-        ("check", "") => Ok(Question::Check(check(fields)?)),
-        (key, _) if NOT_YET.contains(&key) => Ok(Question::NotYet(format!("`{key}`"))),
-        (key, _) => Err(format!("`{key}` is no question")),
+/// What these lines ask.
+fn asked(lines: &[&str]) -> Result<Asked, String> {
+    match lines.first().map(|line| key_and_value(line)) {
+        Some((key, _)) if NOT_YET.contains(&key) => Ok(Asked::NotYet(key.to_string())),
+        _ => Ok(Asked::Known(Question::read(lines)?)),
     }
-}
-
-/// The question `check` with these fields.
-fn check(fields: &[&str]) -> Result<Check, String> {
-    let [book, allowance, tables, order] =
-        values(["book", "allowance", "tables", "order"], fields)?;
-    let book = bytes(book)?;
-    let [allowance] = numbers(allowance)?;
-    let [pos, neg, decided, trues, redundant] = numbers(tables)?;
-    let [wanted, unwanted, standard] = numbers(order)?;
-    let places = Places { derived: [pos, neg], records: [decided, trues, redundant] };
-    let input = input_bytes(Order { wanted, unwanted, standard }, &book);
-    Ok(Check { input, places, allowance })
-}
-
-/// The values of lines with these keys, and of no more lines.
-fn values<'a, const N: usize>(keys: [&str; N], lines: &[&'a str]) -> Result<[&'a str; N], String> {
-    if lines.len() != N {
-        return Err(format!("the lines {} are due, not {} lines", keys.join(", "), lines.len()));
-    }
-    let mut values = [""; N];
-    for ((due, line), value) in keys.iter().zip(lines).zip(&mut values) {
-        *value = match key_and_value(line) {
-            (key, value) if key == *due => value,
-            (key, _) => return Err(format!("`{due}` is due, not `{key}`")),
-        };
-    }
-    Ok(values)
-}
-
-/// A line's first word, and what follows it.
-fn key_and_value(line: &str) -> (&str, &str) {
-    line.split_once(' ').unwrap_or((line, ""))
-}
-
-/// As many numbers as are due, and no more.
-fn numbers<T: std::str::FromStr, const N: usize>(text: &str) -> Result<[T; N], String> {
-    let numbers: Option<Vec<T>> = text.split(' ').map(|word| word.parse().ok()).collect();
-    let numbers = numbers.and_then(|numbers| numbers.try_into().ok());
-    numbers.ok_or(format!("{N} numbers are due, not `{text}`"))
 }
 
 #[cfg(test)]
@@ -185,6 +138,10 @@ mod tests {
                         00000000000000000100000000000000\n\
                         allowance 0\ntables 1 1 64 65 66\norder 0 0 0\nout\n\
                         stopped 10 0 0 0\nend\n";
+    /// A book without options and rules, and two orders: the second names an option above n.
+    const TWO: &str = "case two\nmorning\nbook 000000\nallowance 0\ntables 0 1 128 129 128\n\
+                       order 0 0 0\norder 0 0 1\nout\n\
+                       can 0 0 0 0\nrefused 12 0 0 0\nend\n";
 
     fn through_the_port(text: &str) -> Result<(Score, String), String> {
         run(&mut [Box::new(Port)], text)
@@ -222,6 +179,20 @@ mod tests {
     }
 
     #[test]
+    fn the_answers_to_a_morning_stand_one_after_the_other() {
+        let none = TWO.replace("order 0 0 0\norder 0 0 1\n", "");
+        let none = none.replace("can 0 0 0 0\nrefused 12", "refused 13");
+        let (score, told) = through_the_port(&format!("{TWO}{none}")).unwrap();
+        assert_eq!((score.agree, told.as_str()), (2, ""));
+        let turned = TWO.replace("can 0 0 0 0\nrefused 12 0 0 0", "refused 12 0 0 0\ncan 0 0 0 0");
+        let short = TWO.replace("case two", "case short").replace("can 0 0 0 0\n", "");
+        let (score, told) = through_the_port(&format!("{turned}{short}")).unwrap();
+        assert_eq!(score.differ, ["two", "short"]);
+        let due = "port: line 1 is `can 0 0 0 0`, due is `refused 12 0 0 0`\n";
+        assert_eq!(told, format!("case two differs, {due}case short differs, {due}"));
+    }
+
+    #[test]
     fn what_is_not_known_yet_is_skipped_by_name() {
         let desk = "case a desk\ndesk 3\nset 1 fitted\nout\n0\n0\norder 1 0\nend\n";
         let (score, told) = through_the_port(&format!("{SMALL}{desk}")).unwrap();
@@ -236,22 +207,25 @@ mod tests {
             fn name(&self) -> String {
                 "other".to_string()
             }
-            fn takes(&self, _: &Check) -> bool {
+            fn takes(&self, _: &Question) -> bool {
                 false
             }
-            fn printed(&mut self, _: &Check) -> Result<String, String> {
+            fn printed(&mut self, _: &Question) -> Result<String, String> {
                 Err("it was asked".to_string())
             }
         }
-        let (score, told) = run(&mut [Box::new(None), Box::new(Port)], SMALL).unwrap();
-        assert_eq!(score.agree, 1);
-        assert_eq!(told, "not asked of the other (1): small\n");
+        let both = format!("{SMALL}{TWO}");
+        let (score, told) = run(&mut [Box::new(None), Box::new(Port)], &both).unwrap();
+        assert_eq!(score.agree, 2);
+        assert_eq!(told, "not asked of the other (2): small, two\n");
     }
 
     #[test]
     fn the_stored_cases_agree_through_the_port() {
         let folder = concat!(env!("CARGO_MANIFEST_DIR"), "/../../tests/vectors");
-        for (file, cases) in [("p01.txt", 419), ("check.txt", 250), ("reading.txt", 420)] {
+        let files =
+            [("p01.txt", 419), ("check.txt", 250), ("reading.txt", 420), ("morning.txt", 250)];
+        for (file, cases) in files {
             let text = std::fs::read_to_string(format!("{folder}/{file}")).unwrap();
             let (score, told) = through_the_port(&text).unwrap();
             assert_eq!(score, Score { agree: cases, ..Score::default() }, "{file}: {told}");

@@ -11,8 +11,8 @@ fn said(output: &Output) -> String {
     String::from_utf8_lossy(&output.stderr).into_owned()
 }
 
-fn vectors() -> String {
-    let path = Path::new(env!("CARGO_MANIFEST_DIR")).join("../../tests/vectors/p01.txt");
+fn vectors(file: &str) -> String {
+    let path = Path::new(env!("CARGO_MANIFEST_DIR")).join("../../tests/vectors").join(file);
     path.to_str().unwrap().to_string()
 }
 
@@ -34,7 +34,7 @@ fn a_program_that_prints_something_else_differs_with_its_book() {
 
 #[test]
 fn a_vector_that_differs_is_named() {
-    let output = compare(&["vectors", &vectors(), "--program", "cat"]);
+    let output = compare(&["vectors", &vectors("p01.txt"), "--program", "cat"]);
     assert_eq!(output.status.code(), Some(1));
     let told = String::from_utf8_lossy(&output.stdout);
     let due = "case empty differs, program cat: line 1 is nothing, due is `refused 1 0 0 0`\n";
@@ -44,8 +44,17 @@ fn a_vector_that_differs_is_named() {
 }
 
 #[test]
+fn a_question_that_a_program_does_not_take_is_named_and_no_difference() {
+    let output = compare(&["vectors", &vectors("morning.txt"), "--program", "cat"]);
+    assert_eq!(output.status.code(), Some(0), "{}", said(&output));
+    let told = String::from_utf8_lossy(&output.stdout);
+    assert!(told.contains("\nnot asked of the program cat (250): 0, 1, 2, 3, "), "{told}");
+    assert!(told.ends_with("program cat, port: 250 cases agree, 0 differ, 0 skipped\n"), "{told}");
+}
+
+#[test]
 fn a_missing_file_of_vectors_fails_and_is_named() {
-    let output = compare(&["vectors", &vectors(), "no-such-file", "--program", "cat"]);
+    let output = compare(&["vectors", &vectors("p01.txt"), "no-such-file", "--program", "cat"]);
     assert_eq!(output.status.code(), Some(1));
     assert!(said(&output).starts_with("compare vectors: no-such-file: "), "{}", said(&output));
 }

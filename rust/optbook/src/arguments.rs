@@ -6,6 +6,9 @@ use std::ops::RangeInclusive;
 /// How many files a verb takes, at least and at most.
 pub type Files = (usize, usize);
 
+/// As many files as are given.
+pub const ANY: usize = usize::MAX;
+
 /// The files and the flags of a command line.
 #[derive(Debug, Default)]
 pub struct Arguments {
@@ -34,9 +37,10 @@ impl Arguments {
         }
         let (least, most) = files;
         if !(least..=most).contains(&read.files.len()) {
-            let expected = match least == most {
-                true => least.to_string(),
-                false => format!("{least} at least and {most} at most"),
+            let expected = match most {
+                ANY => format!("{least} at least"),
+                _ if least == most => least.to_string(),
+                _ => format!("{least} at least and {most} at most"),
             };
             return usage(format!("{} files are given: expected {expected}", read.files.len()));
         }
@@ -106,6 +110,15 @@ mod tests {
         for (line, what) in due {
             assert_eq!(read(line).unwrap_err(), what, "{line}");
         }
+    }
+
+    #[test]
+    fn any_number_of_files_has_a_least() {
+        let read = |words: &[String]| Arguments::read(words, &[], (1, ANY));
+        let words = vec!["a".to_string(); 20];
+        assert_eq!(read(&words).ok().unwrap().files.len(), 20);
+        let failure = read(&[]).err().unwrap();
+        assert_eq!(failure.to_string(), "0 files are given: expected 1 at least");
     }
 
     #[test]

@@ -5,7 +5,7 @@
 //! literal may repeat, and `%` ends the file, as in old collections. A clause with a variable and its
 //! negation is always kept; a book has no such rules, so it is left out and told.
 
-use crate::sheet::{Mistake, Place};
+use crate::mistake::{Mistake, Place};
 use crate::{option, Book, Order, Rule, OPTIONS, RULES};
 
 /// A book that was read, and the lines of the clauses that are always kept.

@@ -1,10 +1,12 @@
-//! The proved check, through the wrapper: tables are lent to the library, and what it wrote into
-//! them is taken out. Each answer here is the library's own.
+//! The proved check, and that of a morning's orders together, through the wrapper: tables are lent to
+//! the library, and what it wrote into them is taken out. Each answer here is the library's own.
 
+#[cfg(feature = "proved")]
+use crate::lent::Lent;
 use crate::{Book, Order, Rule};
 pub use optcheck::{Answer, Kind};
 
-/// What a check may use: branchings, and places for derived rules.
+/// What a check may use, and each check of a morning: branchings, and places for derived rules.
 #[derive(Clone, Copy, Debug, PartialEq, Eq)]
 pub struct Limits {
     pub allowance: u32,
@@ -27,6 +29,10 @@ pub struct Checked {
     pub records: Vec<Record>,
 }
 
+/// What a morning ends with: what each order's check does, in turn, or the number of the refusal of all
+/// of them.
+pub type Morning = Result<Vec<Checked>, u32>;
+
 /// The proved library is not linked.
 #[derive(Clone, Copy, Debug, PartialEq, Eq)]
 pub struct Unlinked;
@@ -38,32 +44,43 @@ impl Default for Limits {
     }
 }
 
+impl Checked {
+    /// A refusal: nothing is counted.
+    pub fn refused(number: u32) -> Checked {
+        let answer = Answer { kind: Kind::Refused, number, branchings: 0, derived: 0, records: 0 };
+        Checked { answer, derived: Vec::new(), records: Vec::new() }
+    }
+}
+
 /// The proved check of an order against a book.
 #[cfg(feature = "proved")]
 pub fn check(book: &Book, order: Order, limits: Limits) -> Result<Checked, Unlinked> {
-    const RECORD_PLACES: usize = 64;
-    let (mut pos, mut neg) = (vec![0; limits.places], vec![0; limits.places]);
-    let [mut decided, mut trues, mut redundant] = [[0; RECORD_PLACES]; 3];
-    let tables = optcheck::Tables {
-        pos: &mut pos,
-        neg: &mut neg,
-        decided: &mut decided,
-        trues: &mut trues,
-        redundant: &mut redundant,
-    };
+    let mut lent = Lent::new(1, limits.places);
     let bytes = crate::bytes::book_bytes(book);
-    let answer = optcheck::check(&bytes, order, limits.allowance, tables);
-    let rule = |i| Rule { fitted: pos[i], left_out: neg[i] };
-    let record = |i| Record { decided: decided[i], fitted: trues[i], struck: redundant[i] };
-    Ok(Checked {
-        answer,
-        derived: (0..answer.derived).map(rule).collect(),
-        records: (0..answer.records).map(record).collect(),
-    })
+    let answer = optcheck::check(&bytes, order, limits.allowance, lent.tables());
+    Ok(lent.checked(0, answer))
+}
+
+/// The proved checks of a morning's orders against one book, each with these limits.
+#[cfg(feature = "proved")]
+pub fn morning(book: &Book, orders: &[Order], limits: Limits) -> Result<Morning, Unlinked> {
+    let mut lent = Lent::new(orders.len(), limits.places);
+    let bytes = crate::bytes::book_bytes(book);
+    let answers = optcheck::morning(&bytes, orders, limits.allowance, lent.tables());
+    let checked = |answers: Vec<Answer>| {
+        answers.into_iter().enumerate().map(|(index, answer)| lent.checked(index, answer)).collect()
+    };
+    Ok(answers.map(checked))
 }
 
 /// Without the library nothing is checked.
 #[cfg(not(feature = "proved"))]
 pub fn check(_: &Book, _: Order, _: Limits) -> Result<Checked, Unlinked> {
+    Err(Unlinked)
+}
+
+/// Without the library nothing is checked.
+#[cfg(not(feature = "proved"))]
+pub fn morning(_: &Book, _: &[Order], _: Limits) -> Result<Morning, Unlinked> {
     Err(Unlinked)
 }

@@ -49,7 +49,8 @@ fn all_but<T: Copy>(kept: &[Kept<T>], left_out: usize) -> Vec<T> {
 #[cfg(test)]
 mod tests {
     use super::*;
-    use crate::sheet::{order, rules, Demand, Place, Sheet};
+    use crate::mistake::Place;
+    use crate::sheet::{order, rules, Demand, Sheet};
 
     type Never = std::convert::Infallible;
 

@@ -1,7 +1,8 @@
 //! Reading files, `-` being standard input. A mistake is told with the file's name.
 
 use crate::ending::Failure;
-use optbook::sheet::{Mistake, Place, Sheet};
+use optbook::mistake::{Mistake, Place};
+use optbook::sheet::Sheet;
 use std::io::{self, Read};
 use std::{fs, str};
 
@@ -11,6 +12,11 @@ pub fn name(file: &str) -> &str {
         "-" => "standard input",
         _ => file,
     }
+}
+
+/// What is told on one line, whatever a file's name is.
+pub fn on_one_line(told: impl ToString) -> String {
+    told.to_string().replace(char::is_control, "?")
 }
 
 pub fn read_bytes(file: &str) -> Result<Vec<u8>, Failure> {

@@ -1,13 +1,17 @@
 //! Option books and orders in readable form, over the proved checker.
 //!
-//! `sheet` reads the readable form with the line of each mistake, and `text` writes it; `bytes` and
-//! `dimacs` are the two other forms of a book. `engine` is the proved check, `outcome` tells what it
-//! found with the options' names, and `explain` looks for the reason of a `cannot`.
+//! `sheet` reads the readable form with the line of each `mistake`, and `text` writes it; `bytes` and
+//! `dimacs` are the two other forms of a book. `engine` is the proved check of an order or of several,
+//! `outcome` tells what it found with the options' names, and `explain` looks for the reason of a
+//! `cannot`.
 
 pub mod bytes;
 pub mod dimacs;
 pub mod engine;
 pub mod explain;
+#[cfg(any(test, feature = "proved"))]
+mod lent;
+pub mod mistake;
 pub mod outcome;
 pub mod sheet;
 pub mod text;

@@ -4,8 +4,8 @@
 use crate::engine::{Answer, Checked, Kind, Record};
 use crate::text::{rule_text, set_text};
 
-/// What each refusal (1 to 9, and 12) and each stop (10 and 11) says, by its number.
-const REASONS: [&str; 12] = [
+/// What each refusal (1 to 9, 12, and 13 of a morning) and each stop (10 and 11) says, by its number.
+const REASONS: [&str; 13] = [
     "the book has fewer than 3 bytes",
     "the book has more than 64 options",
     "the book has more than 1,024 rules",
@@ -18,6 +18,7 @@ const REASONS: [&str; 12] = [
     "another branching is due and the allowance is spent",
     "a new derived rule is due and all its places are full",
     "a standard option is above the book's last",
+    "the number of orders is not 1 to 16",
 ];
 
 /// The outcome in words, over options with these names.
@@ -101,6 +102,8 @@ mod tests {
         assert!(told(Kind::Stopped, 11).ends_with("all its places are full"));
         let twelve = "refused, number 12: a standard option is above the book's last";
         assert_eq!(told(Kind::Refused, 12), twelve);
+        let thirteen = "refused, number 13: the number of orders is not 1 to 16";
+        assert_eq!(told(Kind::Refused, 13), thirteen);
         assert_eq!(told(Kind::Refused, 63), "refused, number 63: no number of the table");
     }
 

@@ -15,23 +15,9 @@
 //! are taken as wanted unless the order has them without. `want:` and `without:` add to the order.
 //! `#` begins a comment. A name is letters, digits and underscores, and begins with no digit.
 
+use crate::mistake::{Mistake, Place};
 use crate::text::EMPTY_RULE;
 use crate::{option, Book, Order, Rule, OPTIONS, RULES};
-use std::fmt;
-
-/// Where something stands: the text's name, and the line, counted from 1.
-#[derive(Clone, Debug, PartialEq, Eq)]
-pub struct Place {
-    pub file: String,
-    pub line: usize,
-}
-
-/// A mistake in a text: where, and what is wrong there and what was expected.
-#[derive(Clone, Debug, PartialEq, Eq)]
-pub struct Mistake {
-    pub place: Place,
-    pub what: String,
-}
 
 /// What must be kept: a rule of the book, a standard option, or a wish of the order for one option.
 /// An option is given as a set.
@@ -48,18 +34,6 @@ pub enum Demand {
 pub struct Sheet {
     pub names: Vec<String>,
     pub demands: Vec<(Demand, Place)>,
-}
-
-impl fmt::Display for Place {
-    fn fmt(&self, f: &mut fmt::Formatter<'_>) -> fmt::Result {
-        write!(f, "{}: line {}", self.file, self.line)
-    }
-}
-
-impl fmt::Display for Mistake {
-    fn fmt(&self, f: &mut fmt::Formatter<'_>) -> fmt::Result {
-        write!(f, "{}: {}", self.place, self.what)
-    }
 }
 
 /// The rules among these demands.
@@ -94,12 +68,13 @@ impl Sheet {
 
     /// Reads a text into the sheet, after what it already holds.
     pub fn read(&mut self, file: &str, text: &str) -> Result<(), Mistake> {
-        for (index, line) in text.lines().enumerate() {
-            let place = Place { file: file.to_string(), line: index + 1 };
-            let line = line.split('#').next().unwrap_or("").trim();
-            self.read_line(&place, line).map_err(|what| Mistake { place, what })?;
-        }
-        Ok(())
+        self.read_lines(file, text, Sheet::read_line)
+    }
+
+    /// Reads the text of one of several orders, which has standard options and wishes alone: options
+    /// and rules are the book's, which all orders share.
+    pub fn read_order(&mut self, file: &str, text: &str) -> Result<(), Mistake> {
+        self.read_lines(file, text, Sheet::read_order_line)
     }
 
     pub fn book(&self) -> Book {
@@ -124,6 +99,30 @@ impl Sheet {
 
     fn kept(&self) -> impl Iterator<Item = &Demand> {
         self.demands.iter().map(|(demand, _)| demand)
+    }
+
+    /// Reads each line, without its comment.
+    fn read_lines(
+        &mut self,
+        file: &str,
+        text: &str,
+        read: fn(&mut Sheet, &Place, &str) -> Result<(), String>,
+    ) -> Result<(), Mistake> {
+        for (index, line) in text.lines().enumerate() {
+            let place = Place { file: file.to_string(), line: index + 1 };
+            let line = line.split('#').next().unwrap_or("").trim();
+            read(self, &place, line).map_err(|what| Mistake { place, what })?;
+        }
+        Ok(())
+    }
+
+    fn read_order_line(&mut self, place: &Place, line: &str) -> Result<(), String> {
+        let what = match line.split_once(':') {
+            Some((word, _)) if word.trim() == "options" => "`options:` stands in an order",
+            None if !line.is_empty() => "a rule stands in an order",
+            _ => return self.read_line(place, line),
+        };
+        Err(format!("{what}: expected it in the book, which all orders share"))
     }
 
     fn read_line(&mut self, place: &Place, line: &str) -> Result<(), String> {
@@ -302,6 +301,29 @@ mod tests {
         let mut sheet = Sheet::of("b", "options: a b c\nstandard: a\nb\n").unwrap();
         sheet.read("o", "without: a b\nstandard: c\nstandard: b\nwant: c\n").unwrap();
         assert_eq!(sheet.order(), Order { wanted: 4, unwanted: 3, standard: 7 });
+    }
+
+    #[test]
+    fn one_of_several_orders_has_standard_options_and_wishes_alone() {
+        let book = Sheet::of("b", "options: a b c\nstandard: a\n!a | !b\nwant: c\n").unwrap();
+        let read = |text: &str| {
+            let mut sheet = book.clone();
+            sheet.read_order("o", text).map(|()| sheet).map_err(|mistake| mistake.to_string())
+        };
+        let sheet = read("# a buyer\n\nwithout: a\nstandard: b # too\n").unwrap();
+        assert_eq!(sheet.order(), Order { wanted: 4, unwanted: 1, standard: 3 });
+        assert_eq!((sheet.book(), read("").unwrap()), (book.book(), book.clone()));
+        let shared = "expected it in the book, which all orders share";
+        let told = |text: &str| read(text).unwrap_err();
+        assert_eq!(
+            told("\noptions: d"),
+            format!("o: line 2: `options:` stands in an order: {shared}")
+        );
+        let rule = format!("o: line 2: a rule stands in an order: {shared}");
+        assert_eq!([told("want: b\na | b"), told("want: b\nfalse")], [rule.clone(), rule]);
+        let twice = "o: line 1: `c` stands twice in the order: expected it once";
+        assert_eq!(told("want: c"), twice);
+        assert!(told("need: c").starts_with("o: line 1: `need:` is unknown"));
     }
 
     #[test]

@@ -1,7 +1,7 @@
 /*
  * The option book checker, for C. One call checks an order against a book, writes the outcome into
- * tables that the caller lends, and returns the answer as one word. Every length is permitted: a
- * bad one is a refusal.
+ * tables that the caller lends, and returns the answer as one word; another checks several orders
+ * of one book. Every length is permitted: a bad one is a refusal.
  *
  * Each table is a pointer and its length in elements. No two tables overlap. A pointer to a table
  * of length 0 is not read, and must not be null.
@@ -17,11 +17,12 @@
 extern "C" {
 #endif
 
-/* The limits of a book and of the lent tables. */
+/* The limits of a book, of the lent tables and of a morning. */
 #define OPTCHECK_OPTIONS 64u
 #define OPTCHECK_RULES 1024u
 #define OPTCHECK_DERIVED_PLACES 2048u /* pos and neg: equal lengths, at most this */
 #define OPTCHECK_RECORD_PLACES 64u    /* decided, trues and redundant: at least this */
+#define OPTCHECK_ORDERS 16u           /* a morning: at least one order, at most this */
 
 /*
  * Checks the order (wanted, unwanted, standard) against the book, with at most `allowance`
@@ -37,6 +38,33 @@ extern "C" {
 uint64_t optcheck_check(
     const uint8_t *book, size_t book_len,
     uint64_t wanted, uint64_t unwanted, uint64_t standard, uint32_t allowance,
+    uint64_t *pos, size_t pos_len,
+    uint64_t *neg, size_t neg_len,
+    uint64_t *decided, size_t decided_len,
+    uint64_t *trues, size_t trues_len,
+    uint64_t *redundant, size_t redundant_len);
+
+/*
+ * Checks a morning's orders against one book, each with at most `allowance` branchings of its own.
+ *
+ *   orders   three words an order: wanted, unwanted, standard
+ *   answers  one word an order, as optcheck_check returns it
+ *
+ * The number of orders is answers_len. Each of the five tables is cut by its own length into as
+ * many equal parts: order i, counted from 0, has the length / answers_len places from
+ * i * (length / answers_len) on. What remains at the end of a table is not touched. Each answer,
+ * and what is written in the order's parts, is that of optcheck_check with these parts as its
+ * tables: the limits above are those of a part. A refused order does not hold up the next.
+ *
+ * The result is 0. It is 13, and neither answers nor tables are touched, where answers_len is not
+ * 1 to OPTCHECK_ORDERS or orders_len is not three times answers_len; this is looked at before the
+ * book.
+ */
+uint32_t optcheck_morning(
+    const uint8_t *book, size_t book_len,
+    const uint64_t *orders, size_t orders_len,
+    uint32_t allowance,
+    uint64_t *answers, size_t answers_len,
     uint64_t *pos, size_t pos_len,
     uint64_t *neg, size_t neg_len,
     uint64_t *decided, size_t decided_len,
@@ -59,7 +87,7 @@ static inline unsigned optcheck_kind(uint64_t answer) { return (unsigned)(answer
 
 /*
  * 0 for a verdict, 1 to 9 or 12 refused (12: a standard option above the book's last), 10 or 11
- * stopped.
+ * stopped. 13 is no answer's number: a morning that is refused has no answers.
  */
 static inline unsigned optcheck_number(uint64_t answer) { return (unsigned)(answer >> 2 & 63); }
 

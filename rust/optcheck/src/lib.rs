@@ -1,5 +1,5 @@
-//! A safe wrapper over the proved checker's static library (include/optcheck.h). `check` is there
-//! with the feature `proved`; without it nothing is linked.
+//! A safe wrapper over the proved checker's static library (include/optcheck.h). `check` and
+//! `morning` are there with the feature `proved`; without it nothing is linked.
 
 mod answer;
 #[cfg(feature = "proved")]
@@ -8,8 +8,9 @@ mod order;
 
 pub use answer::{Answer, Kind};
 #[cfg(feature = "proved")]
-pub use library::check;
+pub use library::{check, morning, morning_words};
 pub use order::Order;
+use std::ops::Range;
 
 /// The lent tables: two for derived rules, three for records. A bad length is a refusal.
 pub struct Tables<'a> {
@@ -18,4 +19,26 @@ pub struct Tables<'a> {
     pub decided: &'a mut [u64],
     pub trues: &'a mut [u64],
     pub redundant: &'a mut [u64],
+}
+
+/// The part of a table that belongs to a morning's order: the places of the order with this index,
+/// counted from 0, in a table of this length, which is cut into as many equal parts as there are
+/// orders. What remains at the end belongs to none.
+pub fn part(length: usize, orders: usize, index: usize) -> Range<usize> {
+    let places = length / orders;
+    index * places..(index + 1) * places
+}
+
+#[cfg(test)]
+mod tests {
+    use super::*;
+
+    #[test]
+    fn parts_stand_one_after_the_other_and_a_remainder_belongs_to_none() {
+        assert_eq!([part(11, 2, 0), part(11, 2, 1)], [0..5, 5..10]);
+        assert_eq!([part(130, 2, 0), part(130, 2, 1)], [0..65, 65..130]);
+        assert_eq!([part(5, 3, 0), part(5, 3, 1), part(5, 3, 2)], [0..1, 1..2, 2..3]);
+        assert_eq!(part(2048, 1, 0), 0..2048);
+        assert!(part(15, 16, 15).is_empty());
+    }
 }

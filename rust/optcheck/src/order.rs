@@ -16,6 +16,11 @@ impl Order {
         let Order { wanted, unwanted, standard } = self;
         Order { wanted: wanted | (standard & !unwanted), unwanted, standard: 0 }
     }
+
+    /// The three sets, in the sequence in which the library takes them.
+    pub fn words(self) -> [u64; 3] {
+        [self.wanted, self.unwanted, self.standard]
+    }
 }
 
 #[cfg(test)]
@@ -32,6 +37,11 @@ mod tests {
         assert_eq!(completed(0b0001, 0b0010, 0b1110), (0b1101, 0b0010, 0));
         assert_eq!(completed(0, 0, 1 << 63), (1 << 63, 0, 0));
         assert_eq!(completed(0, u64::MAX, u64::MAX), (0, u64::MAX, 0));
+    }
+
+    #[test]
+    fn the_words_are_wanted_unwanted_and_standard() {
+        assert_eq!(Order { wanted: 1, unwanted: 2, standard: 4 }.words(), [1, 2, 4]);
     }
 
     #[test]

@@ -2,7 +2,7 @@
 
 use crate::book::word;
 use crate::outcome::Outcome;
-use crate::request::{check, Places, Request};
+use crate::request::{check, Order, Places, Request};
 
 /// The program's places for derived rules.
 pub const PROGRAM_PLACES: usize = 2048;
@@ -19,11 +19,10 @@ pub fn run_program(input: &[u8]) -> Outcome {
         return Outcome::refused(1);
     }
     let (order, book) = input.split_at(ORDER);
+    let [wanted, unwanted, standard] = [0, 1, 2].map(|number| word(order, number));
     check(&Request {
         book,
-        wanted: word(order, 0),
-        unwanted: word(order, 1),
-        standard: word(order, 2),
+        order: Order { wanted, unwanted, standard },
         places: Places::equal(PROGRAM_PLACES, PROGRAM_RECORD_PLACES),
         allowance: PROGRAM_ALLOWANCE,
     })

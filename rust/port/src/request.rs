@@ -31,14 +31,19 @@ impl Places {
     }
 }
 
-/// A book's bytes, an order, the lent places and the branching allowance. The standard options come
-/// unless they are unwanted.
-#[derive(Clone, Copy, Debug)]
-pub struct Request<'a> {
-    pub book: &'a [u8],
+/// An order's three sets of options. The standard ones come unless they are unwanted.
+#[derive(Clone, Copy, Debug, Default)]
+pub struct Order {
     pub wanted: u64,
     pub unwanted: u64,
     pub standard: u64,
+}
+
+/// A book's bytes, an order, the lent places and the branching allowance.
+#[derive(Clone, Copy, Debug)]
+pub struct Request<'a> {
+    pub book: &'a [u8],
+    pub order: Order,
     pub places: Places,
     pub allowance: u32,
 }
@@ -49,7 +54,7 @@ pub fn check(request: &Request) -> Outcome {
         Err(number) => Outcome::refused(number),
         Ok(book) => {
             let mut table = book.rules;
-            table.extend(order_rules(request));
+            table.extend(order_rules(request.order));
             steps::run(book.n, table, request.places.derived[0], request.allowance)
         }
     }
@@ -59,13 +64,14 @@ pub fn check(request: &Request) -> Outcome {
 /// above n, which is 12, comes right after 8.
 fn accepted(request: &Request) -> Result<Book, u32> {
     let book = book::read(request.book)?;
-    if (request.wanted | request.unwanted) & !first(book.n) != 0 {
+    let Order { wanted, unwanted, standard } = request.order;
+    if (wanted | unwanted) & !first(book.n) != 0 {
         return Err(7);
     }
-    if request.wanted & request.unwanted != 0 {
+    if wanted & unwanted != 0 {
         return Err(8);
     }
-    if request.standard & !first(book.n) != 0 {
+    if standard & !first(book.n) != 0 {
         return Err(12);
     }
     if !request.places.are_permitted() {
@@ -76,10 +82,10 @@ fn accepted(request: &Request) -> Result<Book, u32> {
 
 /// The completed order as rules: the wanted options and the standard ones that are not unwanted in
 /// one run, lowest first, then the unwanted ones.
-fn order_rules(request: &Request) -> Vec<Rule> {
-    let wanted = request.wanted | (request.standard & !request.unwanted);
+fn order_rules(order: Order) -> Vec<Rule> {
+    let wanted = order.wanted | (order.standard & !order.unwanted);
     let fitted = members(wanted).into_iter().map(|option| Rule { fitted: option, left_out: 0 });
-    let unwanted = members(request.unwanted).into_iter();
+    let unwanted = members(order.unwanted).into_iter();
     let left_out = unwanted.map(|option| Rule { fitted: 0, left_out: option });
     fitted.chain(left_out).collect()
 }
@@ -99,9 +105,8 @@ mod tests {
     use super::*;
 
     fn rules(wanted: u64, unwanted: u64, standard: u64) -> Vec<(u64, u64)> {
-        let places = Places::equal(0, RECORD_PLACES);
-        let request = Request { book: &[], wanted, unwanted, standard, places, allowance: 0 };
-        order_rules(&request).iter().map(|rule| (rule.fitted, rule.left_out)).collect()
+        let rules = order_rules(Order { wanted, unwanted, standard });
+        rules.iter().map(|rule| (rule.fitted, rule.left_out)).collect()
     }
 
     #[test]

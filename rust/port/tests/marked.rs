@@ -20,7 +20,8 @@ fn bytes(n: u8, rules: &[(u64, u64)]) -> Vec<u8> {
 fn printed(n: u8, rules: &[(u64, u64)], order: Order, places: Places, allowance: u32) -> String {
     let book = &bytes(n, rules);
     let (wanted, unwanted, standard) = order;
-    check(&Request { book, wanted, unwanted, standard, places, allowance }).to_string()
+    let order = port::Order { wanted, unwanted, standard };
+    check(&Request { book, order, places, allowance }).to_string()
 }
 
 fn ample(n: u8, rules: &[(u64, u64)], order: Order) -> String {

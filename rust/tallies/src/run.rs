@@ -82,7 +82,7 @@ mod tests {
     use super::*;
     use crate::change::{KINDS, NAMES};
     use crate::engine::rows::tallies::{decide, restrike, start, strike, unstrike};
-    use port::{check, Places, Request};
+    use port::{check, Order, Places, Request};
 
     /// A book of three options that can be built, and one of two that cannot.
     const Q: &[(u64, u64)] = &[(3, 0), (4, 1), (0, 6)];
@@ -108,7 +108,7 @@ mod tests {
         rules.iter().for_each(|rule| book.extend(rule.fitted.to_le_bytes()));
         rules.iter().for_each(|rule| book.extend(rule.left_out.to_le_bytes()));
         let places = Places::equal(places, RECORDS);
-        check(&Request { book: &book, wanted: 0, unwanted: 0, standard: 0, places, allowance })
+        check(&Request { book: &book, order: Order::default(), places, allowance })
     }
 
     #[test]

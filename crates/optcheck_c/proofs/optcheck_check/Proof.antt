@@ -1,26 +1,22 @@
 -- `optcheck_c::optcheck_check` meets its contract: the check leaves what it promises, and its answer fits a word (crate `contract`), which is returned. Assumes nothing.
-use mathlib.Core.Path.{_≡_, ap, subst⁻¹, _∙_}
+use mathlib.Core.Path.{_≡_, ap, _∙_}
 use mathlib.Core.List.{List}
-use Prim.Native.Nat.{ℕ, _^_, _<_}
+use Prim.Native.Nat.{ℕ}
 use Rattle.order.specs.Order.{Order}
-use Rattle.answer.specs.Packed.{packed, Packable}
+use Rattle.answer.specs.Packed.{packed}
 use Rattle.answer.specs.declared.Answer.{Answer}
-use Rattle.contract.specs.Filled.{Tables, lent, lengths, Checked}
-use Rattle.contract.proofs.Demands as contract
+use Rattle.contract.specs.Filled.{Tables, lent, Checked}
+use Rattle.contract.proofs.Demands.{checked-fits}
 use borrow.Author.Needs.{needs}
 use Rattle.optcheck_c.specs.Exported.{Exported}
 use Rattle.optcheck_c.proofs.optcheck_check.Statement.{statement}
 use Rattle.optcheck_c.proofs.optcheck_check.Tie as tie
 
--- what a check promises
-module _ (bytes : List ℕ) (o : Order) (allowance : ℕ) (before after : Tables) (r : Answer) (checked : Checked bytes o allowance before r after) where
-  -- its answer fits a word
-  fits : allowance < 2 ^ 32 → Packable r
-  fits h = subst⁻¹ Packable (checked .answer) (contract.demands .answers-fit bytes o allowance (lengths before) h)
-
-  -- and with that word it is what is promised here
-  exported : (w : ℕ) → w ≡ packed r → Exported bytes o allowance before w after
-  exported w e = record { word = e ∙ ap packed (checked .answer); tables = checked .tables }
+-- what a check promises is, with the word of its answer, what is promised here
+exported :
+    (bytes : List ℕ) (o : Order) (allowance : ℕ) (before after : Tables) (r : Answer) (w : ℕ) → Checked bytes o allowance before r after → w ≡ packed r →
+    Exported bytes o allowance before w after
+exported bytes o allowance before after r w checked e = record { word = e ∙ ap packed (checked .answer); tables = checked .tables }
 
 -- the check, before its answer is packed
 abbrev check-done : tie.After-slice-known10 → tie.After-check
@@ -45,7 +41,7 @@ check-requires c κs = search needs
 word-of-requires : tie.Need-word-of-requires
 word-of-requires c κs =
     let done = check-done c in
-    fits _ _ _ (before done) (left done) _ (done .check .ensures) (start done .fits .allowance .fits)
+    checked-fits _ _ _ (before done) (left done) _ (done .check .ensures) (start done .fits .allowance .fits)
 
 same-length : tie.Need-same-length
 same-length c = search needs
@@ -65,7 +61,7 @@ same-length-5 c = search needs
 returns : tie.Need-returns
 returns c =
     let done = check-done (c .before) in
-    exported _ _ _ (before done) (left done) _ (done .check .ensures) _ (c .word-of .ensures)
+    exported _ _ _ (before done) (left done) _ _ (done .check .ensures) (c .word-of .ensures)
 
 pub optcheck-check-spec : {M : Type 1} → statement M
 optcheck-check-spec =

@@ -5,11 +5,12 @@ use super::check::{limits, LIMITS};
 use super::{Verb, CHECKS};
 use crate::arguments::Arguments;
 use crate::ending::{status_of, Failure, Printed};
-use crate::files::read_sheet;
+use crate::files::{on_one_line, read_sheet};
 use optbook::engine::{check, Answer, Kind, Limits, Unlinked};
 use optbook::explain::{smallest, Kept};
+use optbook::mistake::Place;
 use optbook::outcome::ending;
-use optbook::sheet::{order, rules, Demand, Place, Sheet};
+use optbook::sheet::{order, rules, Demand, Sheet};
 use optbook::text::{rule_text, set_text};
 use optbook::{option, Book};
 
@@ -76,7 +77,7 @@ fn told(sheet: &Sheet, kept: &[Kept<&(Demand, Place)>]) -> String {
     text += &format!("options: {}\n", names(sheet, kept).join(" "));
     for (line, kept) in lines.iter().zip(kept) {
         let mark = if kept.needed { "" } else { " (may not be needed: a check stopped)" };
-        text += &format!("{line:width$}  # {}{mark}\n", printable(&kept.demand.1));
+        text += &format!("{line:width$}  # {}{mark}\n", on_one_line(&kept.demand.1));
     }
     text
 }
@@ -102,11 +103,6 @@ fn line(demand: Demand, names: &[String]) -> String {
         Demand::Want(option) => format!("want: {}", set_text(option, names)),
         Demand::Without(option) => format!("without: {}", set_text(option, names)),
     }
-}
-
-/// A place on one line, whatever the file's name is.
-fn printable(place: &Place) -> String {
-    place.to_string().replace(char::is_control, "?")
 }
 
 #[cfg(test)]

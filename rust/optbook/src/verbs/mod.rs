@@ -5,6 +5,7 @@ mod check;
 mod dimacs;
 mod explain;
 mod from_dimacs;
+mod morning;
 mod text;
 
 use crate::arguments::{Arguments, Files};
@@ -14,6 +15,7 @@ use crate::ending::{Failure, Printed};
 #[rustfmt::skip]
 pub const VERBS: &[Verb] = &[
     check::VERB,
+    morning::VERB,
     explain::VERB,
     bytes::VERB,
     text::VERB,
@@ -60,8 +62,9 @@ pub fn help() -> String {
 }
 
 const FORM: &str = "
-BOOK and ORDER are readable texts, which are read one after the other; - is standard input.
-`optbook VERB --help` tells more of a verb. A text has one thing a line:
+BOOK and ORDER are readable texts, which are read one after the other; - is standard input. ORDERS
+are several such texts, each read after BOOK. `optbook VERB --help` tells more of a verb. A text has
+one thing a line:
 
   options: ring_main twin_header third_vessel
   ring_main | twin_header | !third_vessel      # a rule; ! says left out
@@ -70,7 +73,7 @@ BOOK and ORDER are readable texts, which are read one after the other; - is stan
   without: third_vessel
 
 Exit status: check and explain end with 0 where the order can be built, 1 where it cannot, 2 where
-the checker refuses it, 3 where it stops without a verdict; the other verbs with 0. All end with 64
-on a bad command line, with 65 where what is read has a mistake or cannot be read, and with 74 where
-the output cannot be written.
+the checker refuses it, 3 where it stops without a verdict, and morning with the highest of its
+orders; the other verbs with 0. All end with 64 on a bad command line, with 65 where what is read has
+a mistake or cannot be read, and with 74 where the output cannot be written.
 ";

@@ -3,7 +3,7 @@
 
 use crate::run::{optbook, CAN, PLANT};
 
-const VERBS: [&str; 6] = ["check", "explain", "bytes", "text", "dimacs", "from-dimacs"];
+const VERBS: [&str; 7] = ["check", "morning", "explain", "bytes", "text", "dimacs", "from-dimacs"];
 
 #[test]
 fn the_plant_goes_to_bytes_and_back() {
@@ -59,7 +59,7 @@ fn a_clause_that_is_always_kept_is_left_out_and_told() {
 
 #[test]
 fn a_mistake_is_told_once_with_file_line_and_what_was_expected() {
-    for verb in ["check", "explain", "bytes", "dimacs"] {
+    for verb in ["check", "morning", "explain", "bytes", "dimacs"] {
         let ended = optbook(&[verb, PLANT, "-"], b"\nwant: dram\n");
         let due = "optbook: standard input: line 2: no option is named `dram`: expected a name of \
                    an `options:` line\n";
@@ -74,6 +74,25 @@ fn a_mistake_is_told_once_with_file_line_and_what_was_expected() {
     let ended = optbook(&["from-dimacs", "-"], b"p cnf 65 0\n");
     let due = "optbook: standard input: line 1: 65 variables: expected at most 64\n";
     assert_eq!((ended.said.as_str(), ended.status), (due, 65));
+}
+
+#[test]
+fn an_order_of_a_morning_has_no_options_and_no_rules() {
+    let due = [
+        (&b"options: pump\n"[..], "line 1: `options:` stands in an order"),
+        (b"want: drum\n\ndrum | screen # or\n", "line 3: a rule stands in an order"),
+        (b"false\n", "line 1: a rule stands in an order"),
+    ];
+    for (order, what) in due {
+        let ended = optbook(&["morning", PLANT, CAN, "-"], order);
+        let shared = "expected it in the book, which all orders share";
+        let due = format!("optbook: standard input: {what}: {shared}\n");
+        assert_eq!((ended.said, ended.status), (due, 65));
+        assert!(ended.printed.is_empty());
+    }
+    let ended = optbook(&["morning", PLANT, CAN, "no-such-file"], b"");
+    assert!(ended.said.starts_with("optbook: no-such-file: "), "{}", ended.said);
+    assert_eq!(ended.status, 65);
 }
 
 #[test]
@@ -107,6 +126,8 @@ fn a_bad_command_line_ends_with_64_and_says_how() {
         (&["check"][..], "0 files are given: expected 1 at least and 2 at most"),
         (&["check", "a", "b", "c"], "3 files are given: expected 1 at least and 2 at most"),
         (&["text", "a", "b"], "2 files are given: expected 1"),
+        (&["morning"], "0 files are given: expected 1 at least"),
+        (&["morning", PLANT, "--names", PLANT], "`--names` is unknown here"),
         (&["check", "-", "-"], "`-` stands twice: standard input is read once"),
         (&["bytes", PLANT, "--places", "1"], "`--places` is unknown here"),
         (
@@ -150,8 +171,8 @@ fn the_help_has_an_example_of_each_verb() {
 #[cfg(not(feature = "proved"))]
 #[test]
 fn without_the_library_nothing_is_checked() {
-    for verb in ["check", "explain"] {
-        let ended = optbook(&[verb, PLANT], b"");
+    for verb in ["check", "morning", "explain"] {
+        let ended = optbook(&[verb, PLANT, CAN], b"");
         assert!(ended.said.starts_with("optbook: built without the proved library"));
         assert_eq!((ended.status, ended.printed.len()), (69, 0));
     }

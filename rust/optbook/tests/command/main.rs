@@ -2,5 +2,7 @@
 
 mod forms;
 #[cfg(feature = "proved")]
+mod morning;
+#[cfg(feature = "proved")]
 mod proved;
 mod run;

@@ -1,6 +1,9 @@
-//! A check as it is asked of a checker, and what the port answers.
+//! A check of one order.
 
-use crate::hex::hex;
+use super::of_port;
+use crate::fields::{numbers, order, places, values};
+use crate::hex::{bytes, hex};
+use optbook::bytes::input_bytes;
 use optbook::Order;
 use port::{Outcome, Places, Request, PROGRAM_ALLOWANCE, PROGRAM_PLACES, PROGRAM_RECORD_PLACES};
 
@@ -20,6 +23,15 @@ impl Check {
     pub fn of_program(input: Vec<u8>) -> Check {
         let places = Places::equal(PROGRAM_PLACES, PROGRAM_RECORD_PLACES);
         Check { input, places, allowance: PROGRAM_ALLOWANCE }
+    }
+
+    /// The check of these fields of a case.
+    pub fn read(fields: &[&str]) -> Result<Check, String> {
+        let [book, allowance, tables, words] =
+            values(["book", "allowance", "tables", "order"], fields)?;
+        let [allowance] = numbers(allowance)?;
+        let input = input_bytes(order(words)?, &bytes(book)?);
+        Ok(Check { input, places: places(tables)?, allowance })
     }
 
     /// The places and the allowance are the program's own.
@@ -56,9 +68,8 @@ impl Check {
         let Some((order, book)) = self.parts() else {
             return Outcome::refused(1);
         };
-        let Order { wanted, unwanted, standard } = order;
-        let (places, allowance) = (self.places, self.allowance);
-        port::check(&Request { book, wanted, unwanted, standard, places, allowance })
+        let (order, places, allowance) = (of_port(order), self.places, self.allowance);
+        port::check(&Request { book, order, places, allowance })
     }
 }
 
@@ -67,16 +78,6 @@ fn word(bytes: &[u8], number: usize) -> u64 {
     const WORD: usize = 8;
     let word = &bytes[number * WORD..][..WORD];
     u64::from_le_bytes(word.try_into().expect("a word has eight bytes"))
-}
-
-/// The first line in which what a checker prints is not what is due, with both lines.
-pub fn first_difference(printed: &str, due: &str) -> String {
-    let same = printed.lines().zip(due.lines()).take_while(|(left, right)| left == right).count();
-    let line = |text: &str| match text.lines().nth(same) {
-        Some(line) => format!("`{line}`"),
-        None => "nothing".to_string(),
-    };
-    format!("line {} is {}, due is {}", same + 1, line(printed), line(due))
 }
 
 #[cfg(test)]
@@ -95,10 +96,12 @@ mod tests {
     }
 
     #[test]
-    fn the_first_line_that_differs_is_told() {
-        let told = first_difference("can 0 0 0 1\nr 0 0 1\n", "can 0 0 0 1\n");
-        assert_eq!(told, "line 2 is `r 0 0 1`, due is nothing");
-        let told = first_difference("can 0 0 0 1\n", "cannot 0 0 0 1\n");
-        assert_eq!(told, "line 1 is `can 0 0 0 1`, due is `cannot 0 0 0 1`");
+    fn a_check_is_read_from_its_fields() {
+        let lines = ["book 070000", "allowance 9", "tables 1 2 3 4 5", "order 6 7 8"];
+        let check = Check::read(&lines).unwrap();
+        let order = Order { wanted: 6, unwanted: 7, standard: 8 };
+        assert_eq!(check.parts(), Some((order, &[7, 0, 0][..])));
+        assert_eq!((check.places.derived, check.places.records), ([1, 2], [3, 4, 5]));
+        assert_eq!(check.allowance, 9);
     }
 }

@@ -1,6 +1,8 @@
 //! The same books through the library, the port, the outside solvers whose libraries are there and an
-//! outside solver's process, in one run and in turns, as a table. Times are medians of repeated runs;
-//! ratios hold across machines, times do not.
+//! outside solver's process, in one run and in turns, as a table; mornings through the library as a
+//! second one. Times are medians of repeated runs; ratios hold across machines, times do not.
+
+mod morning;
 
 use crate::in_process::{Clauses, InProcess};
 use crate::outside::Solver;
@@ -46,7 +48,7 @@ struct Times {
     solver: Option<Duration>,
 }
 
-/// Measures every row and prints the table.
+/// Measures every row and prints the tables.
 pub fn run(
     solver: Result<Solver, String>,
     in_process: Vec<Result<InProcess, String>>,
@@ -69,7 +71,7 @@ pub fn run(
         "Tables were not cleared between runs: the library's are lent once for all of them, and \
          the port makes its own for each."
     );
-    Ok(())
+    morning::run(seed)
 }
 
 /// The head of the table, after a note on each solver that is missing.
@@ -247,9 +249,7 @@ fn run_port(input: &Input) -> Outcome {
     let Order { wanted, unwanted, standard } = input.order;
     port::check(&Request {
         book: &input.bytes,
-        wanted,
-        unwanted,
-        standard,
+        order: port::Order { wanted, unwanted, standard },
         places: Places::equal(PROGRAM_PLACES, PROGRAM_RECORD_PLACES),
         allowance: PROGRAM_ALLOWANCE,
     })

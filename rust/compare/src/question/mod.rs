@@ -1,0 +1,114 @@
+//! What is asked of a checker, and what the port answers. A question is a file here, with a type that
+//! is read from the fields of a case and asked of the port, and a variant of `Question`. Each checker
+//! (under_test.rs, library.rs) says whether it takes it.
+
+mod check;
+mod morning;
+
+pub use check::{Check, ORDER};
+pub use morning::Morning;
+
+use crate::fields::key_and_value;
+use crate::hex::bytes;
+use port::{Ending, Outcome};
+
+/// A question.
+#[derive(Clone, Debug)]
+pub enum Question {
+    Check(Check),
+    Morning(Morning),
+}
+
+impl Question {
+    /// The question of these lines: `in` and all of standard input, or its name and then its fields.
+    pub fn read(lines: &[&str]) -> Result<Question, String> {
+        let (first, fields) = lines.split_first().ok_or("there is no question")?;
+        match key_and_value(first) {
+            ("in", hex) if fields.is_empty() => Ok(Check::of_program(bytes(hex)?).into()),
+            ("check", "") => Ok(Check::read(fields)?.into()),
+            ("morning", "") => Ok(Morning::read(fields)?.into()),
+            (key, _) => Err(format!("`{key}` is no question")),
+        }
+    }
+
+    /// What the port answers, as it is printed.
+    pub fn port_printed(&self) -> String {
+        match self {
+            Question::Check(check) => check.port_outcome().to_string(),
+            Question::Morning(morning) => in_turn(&morning.port_outcomes()),
+        }
+    }
+}
+
+impl From<Check> for Question {
+    fn from(check: Check) -> Question {
+        Question::Check(check)
+    }
+}
+
+impl From<Morning> for Question {
+    fn from(morning: Morning) -> Question {
+        Question::Morning(morning)
+    }
+}
+
+/// The outcomes of several checks as they are printed, one after the other, or the refusal of all of
+/// them.
+pub fn in_turn(outcomes: &Result<Vec<Outcome>, u32>) -> String {
+    match outcomes {
+        Ok(outcomes) => outcomes.iter().map(Outcome::to_string).collect(),
+        Err(number) => Outcome::refused(*number).to_string(),
+    }
+}
+
+/// An ending by its word and, where it has one, its number.
+pub fn ending_name(ending: Ending) -> String {
+    match ending.named() {
+        (word, 0) => word.to_string(),
+        (word, number) => format!("{word} {number}"),
+    }
+}
+
+/// The first line in which what a checker prints is not what is due, with both lines.
+pub fn first_difference(printed: &str, due: &str) -> String {
+    let same = printed.lines().zip(due.lines()).take_while(|(left, right)| left == right).count();
+    let line = |text: &str| match text.lines().nth(same) {
+        Some(line) => format!("`{line}`"),
+        None => "nothing".to_string(),
+    };
+    format!("line {} is {}, due is {}", same + 1, line(printed), line(due))
+}
+
+/// An order as the port takes it.
+fn of_port(order: optbook::Order) -> port::Order {
+    let optbook::Order { wanted, unwanted, standard } = order;
+    port::Order { wanted, unwanted, standard }
+}
+
+#[cfg(test)]
+mod tests {
+    use super::*;
+
+    #[test]
+    fn the_first_line_that_differs_is_told() {
+        let told = first_difference("can 0 0 0 1\nr 0 0 1\n", "can 0 0 0 1\n");
+        assert_eq!(told, "line 2 is `r 0 0 1`, due is nothing");
+        let told = first_difference("can 0 0 0 1\n", "cannot 0 0 0 1\n");
+        assert_eq!(told, "line 1 is `can 0 0 0 1`, due is `cannot 0 0 0 1`");
+    }
+
+    #[test]
+    fn outcomes_are_printed_in_turn_and_a_refusal_of_all_once() {
+        let outcomes = vec![Outcome::refused(7), Outcome::refused(9)];
+        assert_eq!(in_turn(&Ok(outcomes)), "refused 7 0 0 0\nrefused 9 0 0 0\n");
+        assert_eq!(in_turn(&Err(13)), "refused 13 0 0 0\n");
+        assert_eq!(in_turn(&Ok(Vec::new())), "");
+    }
+
+    #[test]
+    fn an_ending_has_its_number() {
+        assert_eq!(ending_name(port::CAN), "can");
+        assert_eq!(ending_name(Ending::Refused(12)), "refused 12");
+        assert_eq!(ending_name(Ending::Stopped(11)), "stopped 11");
+    }
+}
