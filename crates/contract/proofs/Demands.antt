@@ -44,7 +44,7 @@ use Rattle.contract.proofs.Completed.{same-ran, by-completed, two-words
 -- ---- answers
 
 -- the answer of a run names its ending
-tells : (r : Outcome) → Tells r (answerOf (ran r))
+pub tells : (r : Outcome) → Tells r (answerOf (ran r))
 unfolding answerOf
 tells r = record { can = λ e. rw e; cannot = λ e. rw e; stop-branchings = λ e. rw e; stop-clauses = λ e. rw e }
 

@@ -3,8 +3,8 @@
 use mathlib.Core.Path.{_≡_, refl, sym, ap, ap₂, subst, subst⁻¹, _∙_}
 use mathlib.Core.Bool.{Bool, true, false}
 use mathlib.Core.List.{List, [], _∷_, _++_}
-use mathlib.Core.Logic.{_↔_, inl, inr}
-use Prim.Native.Nat.{ℕ, zero, suc, _+_, _^_, _<_}
+use mathlib.Core.Logic.{_⊎_, _↔_, inl, inr}
+use Prim.Native.Nat.{ℕ, zero, suc, _+_, _*_, _^_, _<_}
 use native.Mathlib.Nat.{zero-add, add-zero}
 use native.Mathlib.Omega.{arith}
 use lib.ListN.{length, getD}
@@ -15,20 +15,23 @@ use Rattle.steps.specs.State.{Ending, Ending.can, Ending.cannot, Ending.outOfBr
 use Rattle.steps.specs.Run.{Outcome}
 use Rattle.order.specs.Order.{Order}
 use Rattle.book.specs.Conditions.{Condition, First, bookConditions, admitConditions}
-use Rattle.answer.specs.Answer.{tallyOf, endOf}
+use Rattle.answer.specs.Answer.{tallyOf, endOf, tallyIn}
 use Rattle.answer.specs.Packed.{packed, unpacked}
+use Rattle.answer.specs.declared.Tally.{Tally}
 use Rattle.answer.specs.declared.Answer.{Answer}
 use Rattle.answer.specs.declared.Answer.the-variants.{Refused}
+use Rattle.answer.proofs.Ending.{tally-told}
 use Rattle.answer.proofs.Demands.{inverse}
 use Rattle.contract.specs.Check.{Lengths, Result, Result.refused, Result.ran, outcome, check}
 use Rattle.contract.specs.Filled.{Tables, lengths, answerOf, filled, Checked}
-use Rattle.contract.specs.Demands.{answer, checkConditions, Named, Fills, Tells, Uncovered}
+use Rattle.contract.specs.Demands.{answer, Permitted, checkConditions, Named, firstPlaces, Fills, Tells, Uncovered, Settled, StopsOnBranchings, StopsOnPlaces, IsVerdict}
+use Rattle.contract.proofs.Filling.{ran-fills}
 use Rattle.contract.proofs.Demands as contract
 use Rattle.morning.specs.Parts.{partOf, remainderOf}
 use Rattle.morning.specs.Morning.{orderAt, ordersFault, wordPart, fillParts, Left, served, morning}
-use Rattle.morning.specs.Demands.{OneToSixteen, Turned, Thirteen, wordOf, EachByItself, OthersNoPart, OrderRefused, OrdersRefused, Demanded, CarryOver, Demands}
+use Rattle.morning.specs.Demands.{OneToSixteen, Turned, Thirteen, wordOf, EachByItself, OthersNoPart, OrderRefused, OrdersRefused, Demanded, CarryOver, wordsOf, OrdersRead, Bought, Demands}
 use Rattle.morning.proofs.Parts.{cutting}
-use Rattle.morning.proofs.Examples.{two-orders, longest}
+use Rattle.morning.proofs.Examples.{three-orders, longest}
 use Rattle.morning.proofs.Judging.{passing, passes, morning-turned, morning-passed}
 use Rattle.morning.proofs.Serving.{part-lengths, fills-lengths, fills-remainder, fills-part}
 
@@ -74,6 +77,22 @@ thirteen bytes words allowance answers t = go (ordersFault (length words) (lengt
           refused = (λ f. absurd (omega (arith, number, f)), λ n. absurd (n m));
           untouched = untouched bytes words allowance answers t;
         }
+
+-- ---- the orders
+
+-- after one order's words, the next are those of the order after it
+orders-next : (a b c : ℕ) (ws : List ℕ) (i : ℕ) → orderAt (a ∷ b ∷ c ∷ ws) (suc i) ≡ orderAt ws i
+orders-next a b c ws i =
+    let first : 3 * suc i ≡ suc (suc (suc (3 * i))) = omega arith in
+    let second : 3 * suc i + 1 ≡ suc (suc (suc (3 * i + 1))) = omega arith in
+    let third : 3 * suc i + 2 ≡ suc (suc (suc (3 * i + 2))) = omega arith in
+    let at : ℕ → ℕ = λ n. getD (a ∷ b ∷ c ∷ ws) n 0 in
+    λ j. record { wanted = at (first j); unwanted = at (second j); standard = at (third j) }
+
+pub orders-read : OrdersRead
+orders-read [] after o = refl
+orders-read (x ∷ before) after o =
+    orders-next (x .wanted) (x .unwanted) (x .standard) (wordsOf (before ++ (o ∷ after))) (length before) ∙ orders-read before after o
 
 -- ---- each order by itself
 
@@ -131,19 +150,67 @@ each-by-itself bytes words allowance answers t small m =
       as-many = ap length (left-answers bytes words allowance answers t m) ∙ from-length _ 0 k;
     }
 
+-- the counts of an answer: none of a refusal, and those of a run
+abbrev nothing : Tally
+nothing = record { branchings = 0; derived = 0; records = 0 }
+
+refused-tally : (j : ℕ) → tallyIn (answerOf (refused j)) ≡ nothing
+unfolding answerOf
+refused-tally j = refl
+
+ran-tally : (r : Outcome) → tallyIn (answerOf (ran r)) ≡ tallyOf r
+unfolding answerOf
+ran-tally r = tally-told (r .ending) (tallyOf r)
+
+-- two parts of the same lengths hold the same words in the counted places, after a check of each
+counted-same :
+    (bytes : List ℕ) (o : Order) (allowance : ℕ) (p p′ : Tables) → lengths p ≡ lengths p′ →
+    (c : Tally) → c ≡ tallyIn (answerOf (check bytes o allowance (lengths p))) →
+    firstPlaces c (filled (check bytes o allowance (lengths p)) p) ≡ firstPlaces c (filled (check bytes o allowance (lengths p′)) p′)
+counted-same bytes o allowance p p′ same c e = go (check bytes o allowance (lengths p)) refl
+  where
+    left : Tables → Tables
+    left x = filled (check bytes o allowance (lengths x)) x
+
+    go : (x : Result) → check bytes o allowance (lengths p) ≡ x → firstPlaces c (left p) ≡ firstPlaces c (left p′)
+    go (refused j) f =
+        let none : c ≡ nothing = e ∙ ap (λ (x : Result). tallyIn (answerOf x)) f ∙ refused-tally j in
+        ap (λ (y : Tally). firstPlaces y (left p)) none ∙ sym (ap (λ (y : Tally). firstPlaces y (left p′)) none)
+    go (ran r) f =
+        let all : c ≡ tallyOf r = e ∙ ap (λ (x : Result). tallyIn (answerOf x)) f ∙ ran-tally r in
+        ap (λ (y : Tally). firstPlaces y (left p)) all
+        ∙ ran-fills bytes o allowance p r f .first
+        ∙ sym (ran-fills bytes o allowance p′ r (ap (check bytes o allowance) (sym same) ∙ f) .first)
+        ∙ sym (ap (λ (y : Tally). firstPlaces y (left p′)) all)
+
 pub others-no-part : OthersNoPart
-others-no-part bytes words words′ allowance answers answers′ t t′ m m′ e i h same before =
+others-no-part bytes words words′ allowance answers answers′ t t′ small m m′ e i h same long =
     let k : ℕ = length answers in
     let h′ : i < length answers′ = subst (λ (n : ℕ). i < n) e h in
-    let wordBy : Order → Tables → ℕ = λ o p. packed (answerOf (check bytes o allowance (lengths p))) in
-    let filledBy : Order → Tables → Tables = λ o p. filled (check bytes o allowance (lengths p)) p in
-    let part : partOf k i t ≡ partOf (length answers′) i t′ = before ∙ ap (λ (n : ℕ). partOf n i t′) e in (
-      word-is bytes words allowance answers t m i h ∙ ap₂ wordBy same part ∙ sym (word-is bytes words′ allowance answers′ t′ m′ i h′),
-      part-is bytes words allowance answers t m i h
-          ∙ ap₂ filledBy same part
-          ∙ sym (part-is bytes words′ allowance answers′ t′ m′ i h′)
-          ∙ ap (λ (n : ℕ). partOf n i (morning bytes words′ allowance answers′ t′ .tables)) (sym e),
-    )
+    let o : Order = orderAt words i in
+    let left : Left = morning bytes words allowance answers t in
+    let left′ : Left = morning bytes words′ allowance answers′ t′ in
+    let there : partOf k i (left′ .tables) ≡ filled (check bytes o allowance (lengths (partOf k i t′))) (partOf k i t′) =
+    ap (λ (n : ℕ). partOf n i (left′ .tables)) e
+    ∙ part-is bytes words′ allowance answers′ t′ m′ i h′
+    ∙ ap₂ (λ (x : Order) (n : ℕ). filled (check bytes x allowance (lengths (partOf n i t′))) (partOf n i t′)) (sym same) (sym e)
+    in
+    let here : partOf k i (left .tables) ≡ filled (check bytes o allowance (lengths (partOf k i t))) (partOf k i t) =
+    part-is bytes words allowance answers t m i h
+    in
+    let tally : Tally = tallyIn (unpacked (wordOf left i)) in
+    record {
+      word =
+          word-is bytes words allowance answers t m i h
+          ∙ ap (λ (l : Lengths). packed (answerOf (check bytes o allowance l))) long
+          ∙ ap₂ (λ (x : Order) (n : ℕ). packed (answerOf (check bytes x allowance (lengths (partOf n i t′))))) same e
+          ∙ sym (word-is bytes words′ allowance answers′ t′ m′ i h′);
+      counted =
+          ap (firstPlaces tally) here
+          ∙ counted-same bytes o allowance (partOf k i t) (partOf k i t′) long tally (ap tallyIn (answer-is bytes words allowance answers t m i h small))
+          ∙ sym (ap (firstPlaces tally) there);
+      all = λ f. here ∙ ap (λ (x : Tables). filled (check bytes o allowance (lengths x)) x) f ∙ sym there;
+    }
 
 -- ---- refused orders
 
@@ -192,6 +259,25 @@ orders-refused bytes words allowance answers t small m i h =
 
 -- ---- demands 1 to 3
 
+-- what the allowance and the part buy
+bought :
+    (bytes : List ℕ) (o : Order) (allowance : ℕ) (before : Tables) (a : Answer) (after : Tables) → Checked bytes o allowance before a after →
+    (r : Outcome) → Settled bytes o r → Permitted (lengths before) → Bought r allowance (lengths before .pos) before a after
+bought bytes o allowance before a after asked r settled p =
+    let l : Lengths = lengths before in
+    let x = contract.demands .buys bytes o r settled allowance l p in
+    record {
+      enough =
+          λ e.
+          let run = x .same .0 e in (
+            subst⁻¹ (Tells r) (asked .answer ∙ ap answerOf run) (contract.tells r),
+            subst⁻¹ (Fills r before) (asked .tables) (ran-fills bytes o allowance before r run),
+          );
+      stops = λ n. subst⁻¹ (λ (y : Answer). StopsOnBranchings allowance y ⊎ StopsOnPlaces (l .pos) y) (asked .answer) (x .stops n);
+      fewer-branchings = λ e f. subst⁻¹ (StopsOnBranchings allowance) (asked .answer) (x .fewer-branchings e f);
+      fewer-places = λ e f. subst⁻¹ (StopsOnPlaces (l .pos)) (asked .answer) (x .fewer-places e f);
+    }
+
 -- of a check that was asked singly
 demanded :
     (bytes : List ℕ) (o : Order) (allowance : ℕ) (before : Tables) (a : Answer) (after : Tables) → Checked bytes o allowance before a after →
@@ -206,20 +292,21 @@ demanded bytes o allowance before a after asked part same =
       named = subst⁻¹ Named (asked .answer) (contract.demands .answers bytes o allowance l);
       right =
           λ n.
-          let x = contract.demands .outcomes bytes o allowance l n in (
-            record {
-              told = subst⁻¹ (Tells r) (asked .answer) (x .told);
-              can-only = λ c e. x .can-only c (sym (asked .answer) ∙ e);
-              cannot-only = λ c e. x .cannot-only c (sym (asked .answer) ∙ e);
-              derived = x .derived;
-              records = x .records;
-              fills = subst⁻¹ (Fills r before) (asked .tables) (contract.demands .filling bytes o allowance before n);
-            },
-            subst⁻¹ (Uncovered bytes o r) (asked .tables) (contract.demands .never-covered bytes o allowance before r (x .by-the-steps)),
-          );
-      is-answer = asked .answer;
-      buys = λ x s p. contract.demands .buys bytes o x s allowance l p;
-      bound = λ n. contract.demands .bound bytes o l n;
+          let x = contract.demands .outcomes bytes o allowance l n in
+          record {
+            told = subst⁻¹ (Tells r) (asked .answer) (x .told);
+            can-only = λ c e. x .can-only c (sym (asked .answer) ∙ e);
+            cannot-only = λ c e. x .cannot-only c (sym (asked .answer) ∙ e);
+            derived = x .derived;
+            records = x .records;
+            fills = subst⁻¹ (Fills r before) (asked .tables) (contract.demands .filling bytes o allowance before n);
+            uncovered = subst⁻¹ (Uncovered bytes o r) (asked .tables) (contract.demands .never-covered bytes o allowance before r (x .by-the-steps));
+            spent = contract.demands .stops-spent bytes o allowance l r (x .by-the-steps);
+          };
+      bought = bought bytes o allowance before a after asked;
+      always = λ n e f. subst⁻¹ IsVerdict (asked .answer) (contract.demands .bound bytes o l n .enough allowance e f);
+      answer-is = asked .answer;
+      part-is = asked .tables;
     })
 
 pub carry-over : CarryOver
@@ -232,11 +319,13 @@ pub demands : Demands
 demands =
     record {
       thirteen = thirteen;
+      orders-read = orders-read;
       cutting = cutting;
+      own-tables = λ k i t. record { parts = refl; remainders = refl };
       each-by-itself = each-by-itself;
       others-no-part = others-no-part;
       orders-refused = orders-refused;
       carry-over = carry-over;
-      two-orders = two-orders;
+      three-orders = three-orders;
       longest = longest;
     }

@@ -16,15 +16,15 @@ use Rattle.book.specs.Refusals.{firstRow, above, ruleRows, bookRows, orderRows,
 use Rattle.contract.specs.Check.{check, tablesFault}
 use Rattle.contract.specs.Filled.{answerOf, filled}
 use Rattle.morning.specs.Morning.{ordersFault, fillPart, served, morning}
-use Rattle.morning.specs.Demands.{TwoOrders, Longest}
+use Rattle.morning.specs.Demands.{ThreeOrders, Longest}
 
-pub two-orders : TwoOrders
+pub three-orders : ThreeOrders
 unfolding
     morning ordersFault served fillPart answerOf filled
     check complete tablesFault firstRow above ruleRows bookRows orderRows admitRows bytesOf number wordAt wordsIn pair clausesIn flat encode
     minus meets firstOf lowest membersUpTo members ones onesIn vars keepers satisfied falsified names undecidedIn without undecided live
     allInactive monotone firstMonotone sweep unit swept falsifiedNaming enter covers resolvent join merge step search units finish searched run
-two-orders = refl
+three-orders = refl
 
 pub longest : Longest
 longest =

@@ -1,27 +1,28 @@
 -- The demands on a morning, each as a named type that is proved in `proofs/`. The record at the end has them all; docs/STEPS.md says how to read the signs.
 -- `morning bytes words allowance answers t` is the definition, for book bytes, the orders' words, an allowance, the table of answers and the lent tables t. It
 -- is what a morning leaves: a number, the answers and the tables. There is one place for an answer an order, so the number of orders is the length of
--- `answers`. Bytes, words, allowance and tables are any. What a single check is and does is said in crate `contract`.
+-- `answers`. Bytes, words and tables are any, and an allowance has 32 bits. What a single check is and does is said in crate `contract`.
 use mathlib.Core.Path.{_≡_}
 use mathlib.Core.List.{List, [], _∷_, _++_}
-use mathlib.Core.Logic.{_↔_}
-use Prim.Native.Nat.{ℕ, zero, suc, _*_, _/_, _%_, _^_, _≤_, _<_}
+use mathlib.Core.Logic.{_⊎_, _↔_}
+use Prim.Native.Nat.{ℕ, zero, suc, _-_, _*_, _/_, _%_, _^_, _≤_, _<_}
 use lib.ListN.{length, getD, replicate}
-use Rattle.steps.specs.Clause.{Clause}
 use Rattle.steps.specs.Run.{Outcome}
 use Rattle.steps.specs.Meaning.{Buildable}
 use Rattle.steps.specs.Marked.{clause}
-use Rattle.steps.specs.Demands.{DerivedFollow, RecordsHold}
+use Rattle.steps.specs.Demands.{DerivedFollow, RecordsHold, Enough, Spent}
 use Rattle.order.specs.Order.{Order, complete}
+use Rattle.order.specs.Demands.{order}
 use Rattle.book.specs.Bytes.{varsIn, rulesIn, encode}
 use Rattle.book.specs.Conditions.{First, NoRow, bookConditions}
+use Rattle.answer.specs.Answer.{tallyIn}
 use Rattle.answer.specs.Packed.{packed, unpacked}
 use Rattle.answer.specs.declared.Tally.{Tally}
 use Rattle.answer.specs.declared.Answer.{Answer}
 use Rattle.answer.specs.declared.Answer.the-variants.{Can, Cannot, Refused}
-use Rattle.contract.specs.Check.{Lengths, outcome}
-use Rattle.contract.specs.Filled.{Tables, lent, lengths, Checked}
-use Rattle.contract.specs.Demands.{answer, Permitted, checkConditions, Named, Fills, Tells, Uncovered, Settled, Buys, AlwaysEnough}
+use Rattle.contract.specs.Check.{Lengths, outcome, check}
+use Rattle.contract.specs.Filled.{Tables, lent, lengths, filled, Checked}
+use Rattle.contract.specs.Demands.{answer, Permitted, checkConditions, Named, firstPlaces, Fills, Tells, Uncovered, Settled, StopsOnBranchings, StopsOnPlaces, IsVerdict}
 use Rattle.morning.specs.Parts.{part, partOf, remainder, remainderOf, partLengths}
 use Rattle.morning.specs.Morning.{orderAt, Left, morning}
 
@@ -43,6 +44,17 @@ pub record Turned (bytes words : List ℕ) (allowance : ℕ) (answers : List ℕ
 abbrev pub Thirteen : Type 0
 Thirteen = (bytes words : List ℕ) (allowance : ℕ) (answers : List ℕ) (t : Tables) → Turned bytes words allowance answers t
 
+-- ---- the orders
+
+-- the words of orders, one after the other: wanted, unwanted, standard
+abbrev pub wordsOf : List Order → List ℕ
+wordsOf [] = []
+wordsOf (o ∷ os) = o .wanted ∷ o .unwanted ∷ o .standard ∷ wordsOf os
+
+-- of these words, order i is the one before which i others stand
+abbrev pub OrdersRead : Type 0
+OrdersRead = (before after : List Order) (o : Order) → orderAt (wordsOf (before ++ (o ∷ after))) (length before) ≡ o
+
 -- ---- the parts
 
 -- the parts of a table in turn, so many from part i on
@@ -59,6 +71,15 @@ pub record Cuts (k : ℕ) (t : List ℕ) : Type 0 where
 abbrev pub Cutting : Type 0
 Cutting = (k : ℕ) (t : List ℕ) → Cuts k t
 
+-- part i of the five tables has part i of each, in its own place, and so it is with the remainders
+pub record Own (k i : ℕ) (t : Tables) : Type 0 where
+  pub parts : partOf k i t ≡ lent (part k i (t .pos)) (part k i (t .neg)) (part k i (t .decided)) (part k i (t .trues)) (part k i (t .redundant))
+  pub remainders :
+      remainderOf k t ≡ lent (remainder k (t .pos)) (remainder k (t .neg)) (remainder k (t .decided)) (remainder k (t .trues)) (remainder k (t .redundant))
+
+abbrev pub OwnTables : Type 0
+OwnTables = (k i : ℕ) (t : Tables) → Own k i t
+
 -- ---- each order by itself
 
 -- the word of the answer to order i, in what a morning left
@@ -71,7 +92,7 @@ pub record Singly (bytes : List ℕ) (o : Order) (allowance : ℕ) (before : Tab
   pub checked : Checked bytes o allowance before (unpacked w) after
   pub word : w ≡ packed (unpacked w)
 
--- so it is of every order, and the places outside the parts are as they were. An allowance has 32 bits
+-- so it is of every order, and the places outside the parts are as they were
 pub record ByItself (bytes words : List ℕ) (allowance : ℕ) (answers : List ℕ) (t : Tables) (left : Left) : Type 0 where
   pub singly :
       (i : ℕ) → i < length answers →
@@ -85,16 +106,22 @@ EachByItself =
     (bytes words : List ℕ) (allowance : ℕ) (answers : List ℕ) (t : Tables) → allowance < 2 ^ 32 → OneToSixteen words answers →
     ByItself bytes words allowance answers t (morning bytes words allowance answers t)
 
--- two mornings of as many orders, with the same order i and the same part i of the tables before, give order i the same answer and leave the same part. So
--- the other orders play no part, be they refused, stopped or not, nor does anything that they write
+-- two mornings left the same to order i: the answer, and the words in the counted places of its part; where its part was the same before, all of it is
+pub record NoDifference (k i : ℕ) (t t′ : Tables) (left left′ : Left) : Type 0 where
+  pub word : wordOf left i ≡ wordOf left′ i
+  pub counted :
+      firstPlaces (tallyIn (unpacked (wordOf left i))) (partOf k i (left .tables)) ≡ firstPlaces (tallyIn (unpacked (wordOf left i))) (partOf k i (left′ .tables))
+  pub all : partOf k i t ≡ partOf k i t′ → partOf k i (left .tables) ≡ partOf k i (left′ .tables)
+
+-- so it is with two mornings of as many orders that have the same order i and parts i of the same lengths. The other orders play no part, be they refused, stopped
+-- or neither, nor does what they write, nor what a table held
 abbrev pub OthersNoPart : Type 0
 OthersNoPart =
-    (bytes words words′ : List ℕ) (allowance : ℕ) (answers answers′ : List ℕ) (t t′ : Tables) →
+    (bytes words words′ : List ℕ) (allowance : ℕ) (answers answers′ : List ℕ) (t t′ : Tables) → allowance < 2 ^ 32 →
     OneToSixteen words answers → OneToSixteen words′ answers′ → length answers ≡ length answers′ →
-    (i : ℕ) → i < length answers → orderAt words i ≡ orderAt words′ i → partOf (length answers) i t ≡ partOf (length answers) i t′ →
-    let left : Left = morning bytes words allowance answers t in
-    let left′ : Left = morning bytes words′ allowance answers′ t′ in
-    (wordOf left i ≡ wordOf left′ i) × (partOf (length answers) i (left .tables) ≡ partOf (length answers) i (left′ .tables))
+    (i : ℕ) → i < length answers → orderAt words i ≡ orderAt words′ i →
+    lengths (partOf (length answers) i t) ≡ lengths (partOf (length answers) i t′) →
+    NoDifference (length answers) i t t′ (morning bytes words allowance answers t) (morning bytes words′ allowance answers′ t′)
 
 -- ---- refused orders
 
@@ -116,27 +143,39 @@ OrdersRefused =
 
 -- ---- demands 1 to 3, for every order of a morning
 
--- an order that is not refused, with its outcome r: demands 1 and 2 of a single check (crate `contract`), of this answer and this part
-pub record RightOrder (n : ℕ) (rules : List Clause) (o : Order) (r : Outcome) (before : Tables) (a : Answer) (after : Tables) : Type 0 where
+-- an order that is not refused, with its outcome r: demands 1 and 2 of a single check, of this answer and this part; and no derived rule is covered by an earlier
+-- one. Of demand 3: a stop has spent what it says, within the allowance and the part's places
+pub record RightOrder (bytes : List ℕ) (o : Order) (allowance places : ℕ) (r : Outcome) (before : Tables) (a : Answer) (after : Tables) : Type 0 where
   pub told : Tells r a
-  pub can-only : (c : Tally) → a ≡ Can c → Buildable n rules (complete o)
-  pub cannot-only : (c : Tally) → a ≡ Cannot c → Buildable n rules (complete o) → ⊥
-  pub derived : DerivedFollow n rules (complete o) r
-  pub records : RecordsHold n rules (complete o) r
+  pub can-only : (c : Tally) → a ≡ Can c → Buildable (varsIn bytes) (rulesIn bytes) (complete o)
+  pub cannot-only : (c : Tally) → a ≡ Cannot c → Buildable (varsIn bytes) (rulesIn bytes) (complete o) → ⊥
+  pub derived : DerivedFollow (varsIn bytes) (rulesIn bytes) (complete o) r
+  pub records : RecordsHold (varsIn bytes) (rulesIn bytes) (complete o) r
   pub fills : Fills r before after
+  pub uncovered : Uncovered bytes o r after
+  pub spent : Spent allowance places r
+
+-- an order that is settled with the outcome r, with so many places: enough of both gives it this outcome, and less a stop by what is spent; stop 10 where only the
+-- branchings are too few, and stop 11 where only the places are
+pub record Bought (r : Outcome) (allowance places : ℕ) (before : Tables) (a : Answer) (after : Tables) : Type 0 where
+  pub enough : Enough r allowance places → Tells r a × Fills r before after
+  pub stops : (Enough r allowance places → ⊥) → StopsOnBranchings allowance a ⊎ StopsOnPlaces places a
+  pub fewer-branchings : allowance < r .branchings → length (r .derived) ≤ places → StopsOnBranchings allowance a
+  pub fewer-places : r .branchings ≤ allowance → places < length (r .derived) → StopsOnPlaces places a
 
 -- an order with its part, whose lengths are l: the places for derived rules are `l .pos`
 pub record Demanded (bytes : List ℕ) (o : Order) (allowance : ℕ) (l : Lengths) (before : Tables) (a : Answer) (after : Tables) : Type 0 where
   -- 1: a verdict, a numbered refusal or a named stop
   pub named : Named a
-  -- 2, where nothing is refused, and no derived rule is covered by an earlier one
-  pub right :
-      NoRow (checkConditions bytes o l) →
-      RightOrder (varsIn bytes) (rulesIn bytes) o (outcome bytes o allowance l) before a after × Uncovered bytes o (outcome bytes o allowance l) after
-  -- 3: what the allowance and the part buy, and what is always enough. Both speak of `answer bytes o allowance l`, which a is
-  pub is-answer : a ≡ answer bytes o allowance l
-  pub buys : (r : Outcome) → Settled bytes o r → Permitted l → Buys bytes o r allowance l
-  pub bound : NoRow (checkConditions bytes o l) → AlwaysEnough bytes o l
+  -- 2, where nothing is refused
+  pub right : NoRow (checkConditions bytes o l) → RightOrder bytes o allowance (l .pos) (outcome bytes o allowance l) before a after
+  -- 3: what the allowance and the part buy, and what is always enough
+  pub bought : (r : Outcome) → Settled bytes o r → Permitted l → Bought r allowance (l .pos) before a after
+  pub always : NoRow (checkConditions bytes o l) → 2 ^ varsIn bytes - 1 ≤ allowance → 2 ^ varsIn bytes - 1 ≤ l .pos → IsVerdict a
+  -- the rest of demand 3 is said of `check bytes o allowance l` (crate `contract`): which stop it is where both are too few, how the derived rules of two runs begin,
+  -- and the bound. This order's answer and part are those of that check
+  pub answer-is : a ≡ answer bytes o allowance l
+  pub part-is : after ≡ filled (check bytes o allowance l) before
 
 -- so it is of every order, with the whole allowance
 abbrev pub CarryOver : Type 0
@@ -149,22 +188,25 @@ CarryOver =
 
 -- ---- examples
 
--- option 1, and the rules "1" and "not 1". The first order wants option 2 and is refused; the second is empty and goes on. The derived tables have 4 and 5 places,
--- which makes parts of 2; the last place of the second is left over, as is the last of two record tables
-abbrev pub TwoOrders : Type 0
-TwoOrders =
-    morning (encode 1 (clause 1 0 ∷ clause 0 1 ∷ [])) (2 ∷ 0 ∷ 0 ∷ 0 ∷ 0 ∷ 0 ∷ []) 1 (8 ∷ 8 ∷ [])
-    (lent (replicate 4 7) (replicate 5 7) (replicate 129 7) (replicate 128 7) (replicate 129 7)) ≡
+-- the rules "1 or 2", "3 or not 1" and "not 2 or not 3". The first order is empty; the second wants option 4 of 3 and is refused, which does not hold up the third.
+-- That one wants option 2, and option 3 is standard: it cannot be built, and needs the whole allowance. The derived tables have 7 and 8 places, which makes parts of
+-- 2, and the record tables parts of 64, 65 and 66
+abbrev pub ThreeOrders : Type 0
+ThreeOrders =
+    morning (encode 3 (clause 3 0 ∷ clause 4 1 ∷ clause 0 6 ∷ [])) (wordsOf (order 0 0 0 ∷ order 8 0 0 ∷ order 2 0 4 ∷ [])) 2 (8 ∷ 8 ∷ 8 ∷ [])
+    (lent (replicate 7 9) (replicate 8 9) (replicate 192 9) (replicate 195 9) (replicate 200 9)) ≡
     record {
       number = 0;
-      answers = packed (Refused 7) ∷ packed (Cannot (record { branchings = 1; derived = 1; records = 1 })) ∷ [];
+      answers =
+          packed (Can (record { branchings = 1; derived = 0; records = 2 })) ∷ packed (Refused 7) ∷
+          packed (Cannot (record { branchings = 2; derived = 2; records = 1 })) ∷ [];
       tables =
           lent
-          (7 ∷ 7 ∷ 0 ∷ 7 ∷ [])
-          (7 ∷ 7 ∷ 0 ∷ 7 ∷ 7 ∷ [])
-          (replicate 64 7 ++ (0 ∷ replicate 64 7))
-          (replicate 64 7 ++ (0 ∷ replicate 63 7))
-          (replicate 64 7 ++ (1 ∷ replicate 64 7));
+          (9 ∷ 9 ∷ 9 ∷ 9 ∷ 0 ∷ 0 ∷ 9 ∷ [])
+          (9 ∷ 9 ∷ 9 ∷ 9 ∷ 2 ∷ 0 ∷ 9 ∷ 9 ∷ [])
+          (1 ∷ 1 ∷ (replicate 126 9 ++ (0 ∷ replicate 63 9)))
+          (0 ∷ 0 ∷ (replicate 128 9 ++ (0 ∷ replicate 64 9)))
+          (4 ∷ 6 ∷ (replicate 130 9 ++ (7 ∷ replicate 67 9)));
     }
 
 -- the longest tables that are permitted to 16 orders, with remainders, and tables that are one place too long for 15
@@ -177,10 +219,12 @@ pub record Longest : Type 0 where
 -- every demand, proved in `proofs/Demands.antt`
 pub record Demands : Type 0 where
   pub thirteen : Thirteen
+  pub orders-read : OrdersRead
   pub cutting : Cutting
+  pub own-tables : OwnTables
   pub each-by-itself : EachByItself
   pub others-no-part : OthersNoPart
   pub orders-refused : OrdersRefused
   pub carry-over : CarryOver
-  pub two-orders : TwoOrders
+  pub three-orders : ThreeOrders
   pub longest : Longest

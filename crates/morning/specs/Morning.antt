@@ -1,4 +1,5 @@
 -- A morning: 1 to 16 orders against one book, each checked with the whole allowance and with its own part of the lent tables.
+use mathlib.Core.Path.{_≡_}
 use mathlib.Core.Bool.{Bool, true, false, not, _||_}
 use mathlib.Core.List.{List}
 use Prim.Native.Nat.{ℕ, zero, suc, _+_, _*_}
@@ -63,3 +64,7 @@ morning bytes words allowance answers t =
       | true ↦ record { number = 13; answers = answers; tables = t }
       | false ↦ served bytes words allowance (length answers) t
     ]
+
+-- what the entry point promises: its number, the answers and all five tables are those of the definition
+pub record Serves (bytes words : List ℕ) (allowance : ℕ) (answers : List ℕ) (before : Tables) (number : ℕ) (told : List ℕ) (after : Tables) : Type 0 where
+  pub left : record { number = number; answers = told; tables = after } ≡ morning bytes words allowance answers before

@@ -1,3 +1,3 @@
--- What the exported function leaves behind. `Exported` is the promise, and `Demands` the page to read.
+-- What the exported check leaves behind: `Exported` is the promise, and `Demands` the page to read. What the exported morning does is said in crate `morning`.
 pub mod Exported
 pub mod Demands

@@ -1,7 +1,6 @@
 // The check and the morning for C and Rust: exported functions on numbers and slices (rust/optcheck/include/optcheck.h is their header).
-ghost use mathlib.Core.Path.{_≡_};
 ghost use Rattle.contract.specs.Filled.{lent};
-ghost use Rattle.morning.specs.Morning.{morning as Morning};
+ghost use Rattle.morning.specs.Morning.{Serves};
 ghost use Rattle.optcheck_c.specs.Exported.{Exported};
 use order::Order;
 
@@ -43,7 +42,7 @@ pub extern "C" fn optcheck_morning(
     trues: &mut [u64],
     redundant: &mut [u64],
 ) -> u32
-    ensures { λ r. ⌜ record { number = r; answers = now (answers .exit); tables = lent (now (pos .exit)) (now (neg .exit)) (now (decided .exit)) (now (trues .exit)) (now (redundant .exit)) } ≡ Morning (now (book .entry)) (now (orders .entry)) allowance (now (answers .entry)) (lent (now (pos .entry)) (now (neg .entry)) (now (decided .entry)) (now (trues .entry)) (now (redundant .entry))) ⌝ }
+    ensures { λ r. ⌜ Serves (now (book .entry)) (now (orders .entry)) allowance (now (answers .entry)) (lent (now (pos .entry)) (now (neg .entry)) (now (decided .entry)) (now (trues .entry)) (now (redundant .entry))) r (now (answers .exit)) (lent (now (pos .exit)) (now (neg .exit)) (now (decided .exit)) (now (trues .exit)) (now (redundant .exit))) ⌝ }
 {
     serving::morning(
         book,

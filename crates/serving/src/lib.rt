@@ -4,12 +4,12 @@ ghost use Prim.Native.Nat.{_+_, _*_, _≤_, _<_};
 ghost use lib.ListN.{length};
 ghost use Rattle.order.specs.Values.{orderOf};
 ghost use Rattle.contract.specs.Filled.{lent};
-ghost use Rattle.morning.specs.Morning.{orderAt, ordersFault, morning as Morning};
+ghost use Rattle.morning.specs.Morning.{orderAt, ordersFault, Serves};
 ghost use Rattle.serving.specs.Promises.{PartIn, ServedPart};
 use order::Order;
 
 // The most orders of a morning.
-pub const MAX_ORDERS: usize = 16;
+const MAX_ORDERS: usize = 16;
 
 // An order's words: the wanted options, the unwanted ones and the standard ones.
 const ORDER_WORDS: usize = 3;
@@ -28,7 +28,7 @@ pub fn morning(
     trues: &mut [u64],
     redundant: &mut [u64],
 ) -> u32
-    ensures { λ r. ⌜ record { number = r; answers = now (answers .exit); tables = lent (now (pos .exit)) (now (neg .exit)) (now (decided .exit)) (now (trues .exit)) (now (redundant .exit)) } ≡ Morning (now (book .entry)) (now (orders .entry)) allowance (now (answers .entry)) (lent (now (pos .entry)) (now (neg .entry)) (now (decided .entry)) (now (trues .entry)) (now (redundant .entry))) ⌝ }
+    ensures { λ r. ⌜ Serves (now (book .entry)) (now (orders .entry)) allowance (now (answers .entry)) (lent (now (pos .entry)) (now (neg .entry)) (now (decided .entry)) (now (trues .entry)) (now (redundant .entry))) r (now (answers .exit)) (lent (now (pos .exit)) (now (neg .exit)) (now (decided .exit)) (now (trues .exit)) (now (redundant .exit))) ⌝ }
 {
     let k = answers.len();
     if fault(orders.len(), k) {
@@ -115,30 +115,30 @@ fn serve(
     requires { ⌜ i < k ⌝ }
     ensures { λ r. ⌜ ServedPart (now (book .entry)) (orderOf o) allowance k i (lent (now (pos .entry)) (now (neg .entry)) (now (decided .entry)) (now (trues .entry)) (now (redundant .entry))) r (lent (now (pos .exit)) (now (neg .exit)) (now (decided .exit)) (now (trues .exit)) (now (redundant .exit))) ⌝ }
 {
-    let p = part(k, i, pos.len());
-    let n = part(k, i, neg.len());
-    let d = part(k, i, decided.len());
-    let t = part(k, i, trues.len());
-    let r = part(k, i, redundant.len());
-    let p_from = p.from;
-    let p_to = p.to;
-    let n_from = n.from;
-    let n_to = n.to;
-    let d_from = d.from;
-    let d_to = d.to;
-    let t_from = t.from;
-    let t_to = t.to;
-    let r_from = r.from;
-    let r_to = r.to;
+    let in_pos = part(k, i, pos.len());
+    let in_neg = part(k, i, neg.len());
+    let in_decided = part(k, i, decided.len());
+    let in_trues = part(k, i, trues.len());
+    let in_redundant = part(k, i, redundant.len());
+    let pos_from = in_pos.from;
+    let pos_to = in_pos.to;
+    let neg_from = in_neg.from;
+    let neg_to = in_neg.to;
+    let decided_from = in_decided.from;
+    let decided_to = in_decided.to;
+    let trues_from = in_trues.from;
+    let trues_to = in_trues.to;
+    let redundant_from = in_redundant.from;
+    let redundant_to = in_redundant.to;
     let found = checker::check(
         book,
         o,
         allowance,
-        &mut pos[p_from..p_to],
-        &mut neg[n_from..n_to],
-        &mut decided[d_from..d_to],
-        &mut trues[t_from..t_to],
-        &mut redundant[r_from..r_to],
+        &mut pos[pos_from..pos_to],
+        &mut neg[neg_from..neg_to],
+        &mut decided[decided_from..decided_to],
+        &mut trues[trues_from..trues_to],
+        &mut redundant[redundant_from..redundant_to],
     );
     answer::word_of(found)
 }

@@ -8,6 +8,9 @@ use port::{Decisions, Ending, Outcome, Places, Record, Rule, CAN, CANNOT};
 /// Places of each table after those that are lent: more than a derived table may have.
 const BEYOND: usize = 2049;
 
+/// The bits of a word that an answer's parts take up, from the lowest on. The five above them are 0.
+const ANSWER_BITS: u32 = 59;
+
 /// A table: its places, how many of them are lent, and the rubbish, another word at each place.
 struct Table {
     places: Vec<u64>,
@@ -68,16 +71,18 @@ impl Lent {
         Tables { pos, neg, decided, trues, redundant }
     }
 
-    /// The outcome of an answer. It is an error if a place changed that is not counted.
-    pub fn outcome(&self, answer: Answer) -> Result<Outcome, String> {
+    /// The outcome of an answer's word. It is an error if the word is no answer's, or if a place
+    /// changed that is not counted.
+    pub fn outcome(&self, word: u64) -> Result<Outcome, String> {
+        let answer = answer(word)?;
         self.keep_all_but(&[answer])?;
         Ok(self.outcome_of_part(answer, (0, 1)))
     }
 
-    /// The outcomes of answers, each in its own part of the tables. It is an error if a place changed
-    /// that is not counted.
-    fn outcomes(&self, answers: &[Answer]) -> Result<Vec<Outcome>, String> {
-        self.keep_all_but(answers)?;
+    /// The outcomes of answers' words, each in its own part of the tables, with the same errors.
+    fn outcomes(&self, words: &[u64]) -> Result<Vec<Outcome>, String> {
+        let answers = words.iter().copied().map(answer).collect::<Result<Vec<_>, _>>()?;
+        self.keep_all_but(&answers)?;
         let outcome = |(part, &answer)| self.outcome_of_part(answer, (part, answers.len()));
         Ok(answers.iter().enumerate().map(outcome).collect())
     }
@@ -121,9 +126,18 @@ impl Lent {
     }
 }
 
+/// The answer in a word. It is an error if one of the five highest bits is not 0: no answer has it.
+fn answer(word: u64) -> Result<Answer, String> {
+    match word >> ANSWER_BITS {
+        0 => Ok(Answer::of_word(word)),
+        _ => Err(format!("the five highest bits of the answer {word:#x} are not 0")),
+    }
+}
+
 /// Lends tables of these lengths, and a place for the answer to each of so many orders, to a morning
-/// that gives 0 or the number of its refusal, and takes the outcomes out. It is an error if a place
-/// changed that is not counted; where it is refused, none may change, and no answer.
+/// that gives 0 or the number of its refusal, and takes the outcomes out. It is an error if a word is
+/// no answer's, or if a place changed that is not counted; where it is refused, none may change, and
+/// no answer.
 pub fn morning(
     places: &Places,
     orders: usize,
@@ -134,9 +148,7 @@ pub fn morning(
     match call(answers.lend(), lent.tables()) {
         0 => {
             answers.keeps_all_but(&[orders]).map_err(|what| format!("answers: {what}"))?;
-            let answers: Vec<Answer> =
-                answers.lend().iter().map(|&word| Answer::of_word(word)).collect();
-            Ok(Ok(lent.outcomes(&answers)?))
+            Ok(Ok(lent.outcomes(answers.lend())?))
         }
         refusal => {
             answers.keeps_all_but(&[]).map_err(|what| format!("answers: {what}"))?;
@@ -152,8 +164,9 @@ mod tests {
 
     const RUBBISH: u64 = 0xa5a5_5a5a_a5a5_5a5a;
 
-    fn answer(kind: Kind, derived: usize, records: usize) -> Answer {
-        Answer { kind, number: 0, branchings: 2, derived, records }
+    /// The word of `cannot` with 2 branchings and so many derived rules and records.
+    fn cannot(derived: u64, records: u64) -> u64 {
+        1 + (2 << 8) + (derived << 40) + (records << 52)
     }
 
     fn lent() -> Lent {
@@ -167,7 +180,7 @@ mod tests {
         assert_eq!([pos.len(), neg.len()], [2, 3]);
         assert_eq!([decided.len(), trues.len(), redundant.len()], [64, 65, 66]);
         (pos[0], neg[0], decided[0], trues[0], redundant[0]) = (1, 2, 12, 4, 3);
-        let printed = lent.outcome(answer(Kind::Cannot, 1, 1)).map(|outcome| outcome.to_string());
+        let printed = lent.outcome(cannot(1, 1)).map(|outcome| outcome.to_string());
         assert_eq!(printed, Ok("cannot 0 2 1 1\nd 1 2\nr 12 4 3\n".to_string()));
     }
 
@@ -175,7 +188,7 @@ mod tests {
     fn a_place_that_is_not_counted_is_named() {
         let mut lent = lent();
         lent.tables().redundant[65] = 0;
-        let told = lent.outcome(answer(Kind::Can, 0, 1)).unwrap_err();
+        let told = lent.outcome(cannot(0, 1)).unwrap_err();
         assert_eq!(told, "place 65 was written, which is not counted");
     }
 
@@ -183,21 +196,33 @@ mod tests {
     fn a_place_after_the_lent_ones_is_named() {
         let mut lent = lent();
         lent.derived[0].places[2] = 0;
-        let told = lent.outcome(answer(Kind::Can, 2, 0)).unwrap_err();
+        let told = lent.outcome(cannot(2, 0)).unwrap_err();
         assert_eq!(told, "place 2 was written, which is not counted");
     }
 
     #[test]
     fn a_count_stays_within_its_table() {
-        let told = lent().outcome(answer(Kind::Can, 3, 0)).unwrap_err();
+        let told = lent().outcome(cannot(3, 0)).unwrap_err();
         assert_eq!(told, "a count of 3 in a table of 2");
+    }
+
+    /// The bit below them is the highest of the count of records.
+    #[test]
+    fn the_five_highest_bits_of_a_word_are_0() {
+        assert!(lent().outcome(cannot(0, 64)).is_ok());
+        for bit in 59..64 {
+            let word = cannot(0, 0) + (1 << bit);
+            let due = format!("the five highest bits of the answer {word:#x} are not 0");
+            assert_eq!(lent().outcome(word).unwrap_err(), due);
+        }
+        let told = two_orders(|answers, _| answers[1] += 1 << 63).unwrap_err();
+        assert_eq!(told, "the five highest bits of the answer 0x8010010000000201 are not 0");
     }
 
     /// What is done to a morning's answers and tables.
     type Change = fn(&mut [u64], Tables);
 
-    /// The word of `cannot` with 2 branchings, a derived rule and a record, and that of refusal 7.
-    const CANNOT_WORD: u64 = 1 + (2 << 8) + (1 << 40) + (1 << 52);
+    /// The word of refusal 7.
     const SEVEN: u64 = 2 + 4 * 7;
 
     /// Two orders with tables of lengths 5, 4, 130, 128 and 200: the parts have 2, 2, 65, 64 and 100
@@ -205,7 +230,7 @@ mod tests {
     fn two_orders(change: Change) -> Result<String, String> {
         let places = Places { derived: [5, 4], records: [130, 128, 200] };
         let outcomes = morning(&places, 2, RUBBISH, |answers, mut tables| {
-            answers.copy_from_slice(&[SEVEN, CANNOT_WORD]);
+            answers.copy_from_slice(&[SEVEN, cannot(1, 1)]);
             (tables.pos[2], tables.neg[2]) = (1, 2);
             let Tables { decided, trues, redundant, .. } = &mut tables;
             (decided[65], trues[64], redundant[100]) = (12, 4, 3);
@@ -240,7 +265,7 @@ mod tests {
 
     #[test]
     fn a_count_stays_within_its_part() {
-        let full = |answers: &mut [u64], _: Tables| answers[1] = CANNOT_WORD + (2 << 40);
+        let full = |answers: &mut [u64], _: Tables| answers[1] = cannot(3, 1);
         assert_eq!(two_orders(full), Err("a count of 3 in a table of 2".to_string()));
     }
 

@@ -34,8 +34,8 @@ impl Library {
     fn check(&self, check: &Check) -> Result<String, String> {
         let (order, book) = check.parts().ok_or("an order that is cut short")?;
         let mut lent = Lent::new(&check.places, self.rubbish);
-        let answer = optcheck::check(book, order, check.allowance, lent.tables());
-        Ok(lent.outcome(answer)?.to_string())
+        let word = optcheck::check_word(book, order, check.allowance, lent.tables());
+        Ok(lent.outcome(word)?.to_string())
     }
 
     fn morning(&self, morning: &Morning) -> Result<String, String> {

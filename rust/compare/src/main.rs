@@ -54,7 +54,7 @@ The outside solver is the first installed of minisat, cadical and picosat, if NA
 const SEED: u64 = 1;
 const BOOKS: usize = 4000;
 
-/// What the lent tables hold before a run.
+/// What the lent tables hold before a run; for mornings, its complement in turn with it.
 const RUBBISH: u64 = 0xa5a5_5a5a_a5a5_5a5a;
 
 /// The words of the command line after the subcommand.
@@ -110,16 +110,16 @@ fn read_words(mut words: impl Iterator<Item = String>) -> Option<Words> {
 }
 
 fn differential(words: &Words) -> Result<(), String> {
-    let mut tested = under_test(words)?;
+    let mut tested = [under_test(words, RUBBISH)?, under_test(words, !RUBBISH)?];
     let solver = Solver::find(words.solver.as_deref())?;
     let (seed, books) = (words.seed.unwrap_or(SEED), words.books.unwrap_or(BOOKS));
-    let (name, by) = (tested.name(), solver.name());
+    let (name, by) = (tested[0].name(), solver.name());
     println!("{books} books of seed {seed}: {name}, the port, {by}, all choices of small books");
     let start = Instant::now();
     let outside = |order, book: &_| solver.can_be_built(order, book);
-    let tally = differential::run(tested.as_mut(), &outside, seed, books)?;
+    let tally = differential::run(tested[0].as_mut(), &outside, seed, books)?;
     print!("{}", tally.told());
-    if let Some(tally) = mornings::run(tested.as_mut(), seed, mornings::beside(books))? {
+    if let Some(tally) = mornings::run(&mut tested, seed, mornings::beside(books))? {
         print!("{}", tally.told());
     }
     println!("no difference, in {:.1} s", start.elapsed().as_secs_f64());
@@ -128,7 +128,7 @@ fn differential(words: &Words) -> Result<(), String> {
 
 /// The last line has the counts of all files together; a case that differs is an error.
 fn vectors(words: &Words) -> Result<(), String> {
-    let mut tested = [under_test(words)?, Box::new(Port)];
+    let mut tested = [under_test(words, RUBBISH)?, Box::new(Port)];
     let (mut agree, mut differ, mut skipped) = (0, Vec::new(), 0);
     for file in &words.files {
         let text = fs::read_to_string(file).map_err(|error| format!("{file}: {error}"))?;
@@ -192,11 +192,11 @@ fn bench(words: &Words) -> Result<(), String> {
     bench::run(solver, in_process::all(), words.seed.unwrap_or(SEED))
 }
 
-/// The program that was given, else the library.
-fn under_test(words: &Words) -> Result<Box<dyn UnderTest>, String> {
+/// The program that was given, else the library, with this rubbish in the tables that it is lent.
+fn under_test(words: &Words, rubbish: u64) -> Result<Box<dyn UnderTest>, String> {
     match &words.program {
         Some(path) => Ok(Box::new(Program { path: path.clone() })),
-        None => library(RUBBISH),
+        None => library(rubbish),
     }
 }
 

@@ -3,8 +3,9 @@
  * tables that the caller lends, and returns the answer as one word; another checks several orders
  * of one book. Every length is permitted: a bad one is a refusal.
  *
- * Each table is a pointer and its length in elements. No two tables overlap. A pointer to a table
- * of length 0 is not read, and must not be null.
+ * The book, the orders, the answers and each table are a pointer and a length in elements. No two
+ * of them overlap; the book and the orders are only read. A pointer with the length 0 is not used,
+ * and must not be null.
  */
 
 #ifndef OPTCHECK_H

@@ -8,7 +8,7 @@ mod order;
 
 pub use answer::{Answer, Kind};
 #[cfg(feature = "proved")]
-pub use library::{check, morning, morning_words};
+pub use library::{check, check_word, morning, morning_words};
 pub use order::Order;
 use std::ops::Range;
 
@@ -23,7 +23,8 @@ pub struct Tables<'a> {
 
 /// The part of a table that belongs to a morning's order: the places of the order with this index,
 /// counted from 0, in a table of this length, which is cut into as many equal parts as there are
-/// orders. What remains at the end belongs to none.
+/// orders. What remains at the end belongs to none. There must be an order, and the index must be
+/// below their number.
 pub fn part(length: usize, orders: usize, index: usize) -> Range<usize> {
     let places = length / orders;
     index * places..(index + 1) * places

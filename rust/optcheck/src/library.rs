@@ -45,11 +45,16 @@ extern "C" {
 
 /// Checks an order against a book with at most this many branchings.
 pub fn check(book: &[u8], order: Order, allowance: u32, tables: Tables) -> Answer {
+    Answer::of_word(check_word(book, order, allowance, tables))
+}
+
+/// The same check, with the answer as its word.
+pub fn check_word(book: &[u8], order: Order, allowance: u32, tables: Tables) -> u64 {
     let Order { wanted, unwanted, standard } = order;
     let Tables { pos, neg, decided, trues, redundant } = tables;
     // Safety: each pointer goes with the length of the slice that it is taken from, the slices are
     // borrowed for the call, and no two of them overlap.
-    let word = unsafe {
+    unsafe {
         optcheck_check(
             book.as_ptr(),
             book.len(),
@@ -68,8 +73,7 @@ pub fn check(book: &[u8], order: Order, allowance: u32, tables: Tables) -> Answe
             redundant.as_mut_ptr(),
             redundant.len(),
         )
-    };
-    Answer::of_word(word)
+    }
 }
 
 /// Checks each of a morning's orders against a book, each with at most this many branchings and in

@@ -56,7 +56,9 @@ returns : tie.Need-returns Inv-loop μ-loop
 returns c =
     let begin = start (c .before) in
     let a = begin .args in
-    sym (morning-turned (a .book .now) (a .orders .now) (a .allowance) (a .answers .now) (tables begin) (sym (c .before .fault .ensures) ∙ c .if1 .taken))
+    record {
+      left = sym (morning-turned (a .book .now) (a .orders .now) (a .allowance) (a .answers .now) (tables begin) (sym (c .before .fault .ensures) ∙ c .if1 .taken));
+    }
 
 loop-holds : tie.Need-loop-holds Inv-loop μ-loop
 loop-holds c =
@@ -125,8 +127,11 @@ returns-2 c =
     let begin = start (at .before .before) in
     let a = begin .args in
     let all : at .loop .i ≡ length (a .answers .now) = omega (arith, at .loop .inv .0, c .loop-test .left) in
-    going-end (a .book .now) (a .orders .now) (a .allowance) _ (a .answers .now) (tables begin) refl (at .loop .i) (at .loop .answers) _ all (at .loop .inv .1)
-    ∙ sym (morning-passed (a .book .now) (a .orders .now) (a .allowance) (a .answers .now) (tables begin) (passed (at .before)))
+    record {
+      left =
+          going-end (a .book .now) (a .orders .now) (a .allowance) _ (a .answers .now) (tables begin) refl (at .loop .i) (at .loop .answers) _ all (at .loop .inv .1)
+          ∙ sym (morning-passed (a .book .now) (a .orders .now) (a .allowance) (a .answers .now) (tables begin) (passed (at .before)));
+    }
 
 pub morning-spec : {M : Type 1} → statement M
 morning-spec =

@@ -2,16 +2,18 @@
 //! of the same tables, in turns.
 
 use super::{in_micros, median, repeats};
-use crate::question::Morning;
 use crate::random::Random;
 use crate::shapes;
 use optbook::bytes::book_bytes;
-use port::{Places, PROGRAM_ALLOWANCE, PROGRAM_PLACES, PROGRAM_RECORD_PLACES};
+use optbook::Order;
 use std::time::{Duration, Instant};
 
 /// The orders of a morning, and the books of a row.
 const ORDERS: usize = 16;
 const BOOKS: usize = 10;
+
+/// A morning: the book's bytes, and the orders.
+type Morning = (Vec<u8>, Vec<Order>);
 
 /// Mornings with books of one kind.
 struct Row {
@@ -48,15 +50,13 @@ pub fn run(seed: u64) -> Result<(), String> {
     Ok(())
 }
 
-/// The rows, from the seed: the orders are like those of the option books of the first table, and the
-/// parts of the tables have the program's lengths.
+/// The rows, from the seed: the orders are like those of the option books of the first table.
 fn rows(seed: u64) -> Vec<Row> {
     let mut random = Random::new(seed);
     let mut morning = |options| {
         let book = book_bytes(&shapes::option_book(&mut random, options));
         let orders = (0..ORDERS).map(|_| shapes::order(&mut random, options, 12)).collect();
-        let places = Places::equal(ORDERS * PROGRAM_PLACES, ORDERS * PROGRAM_RECORD_PLACES);
-        Morning { book, orders, places, allowance: PROGRAM_ALLOWANCE }
+        (book, orders)
     };
     let row = |options| Row {
         name: format!("option book, {options} options"),
@@ -111,9 +111,10 @@ fn ways() -> Option<Ways> {
 #[cfg(feature = "proved")]
 fn ways() -> Option<Ways> {
     use optcheck::{part, Tables};
+    use port::{PROGRAM_ALLOWANCE, PROGRAM_PLACES, PROGRAM_RECORD_PLACES};
     use std::hint::black_box;
 
-    /// The five tables of all mornings, as long as the longest needs them.
+    /// The five tables of a morning. An order's parts have the program's lengths.
     fn lent() -> [Vec<u64>; 5] {
         let [derived, records] = [PROGRAM_PLACES, PROGRAM_RECORD_PLACES];
         [derived, derived, records, records, records].map(|places| vec![0; ORDERS * places])
@@ -121,14 +122,14 @@ fn ways() -> Option<Ways> {
 
     let (mut of_together, mut of_singly) = (lent(), lent());
     Some(Ways {
-        together: Box::new(move |Morning { book, orders, allowance, .. }| {
+        together: Box::new(move |(book, orders)| {
             let [pos, neg, decided, trues, redundant] = &mut of_together;
             let tables = Tables { pos, neg, decided, trues, redundant };
-            let answers = optcheck::morning(book, orders, *allowance, tables);
+            let answers = optcheck::morning(book, orders, PROGRAM_ALLOWANCE, tables);
             let answers = black_box(answers).expect("a morning that is served");
             answers.iter().map(|answer| u64::from(answer.branchings)).sum()
         }),
-        singly: Box::new(move |Morning { book, orders, allowance, .. }| {
+        singly: Box::new(move |(book, orders)| {
             let mut branchings = 0;
             for (index, &order) in orders.iter().enumerate() {
                 let [pos, neg, decided, trues, redundant] = of_singly.each_mut().map(|table| {
@@ -136,7 +137,7 @@ fn ways() -> Option<Ways> {
                     &mut table[part]
                 });
                 let tables = Tables { pos, neg, decided, trues, redundant };
-                let answer = optcheck::check(book, order, *allowance, tables);
+                let answer = optcheck::check(book, order, PROGRAM_ALLOWANCE, tables);
                 branchings += u64::from(black_box(answer).branchings);
             }
             branchings
@@ -161,7 +162,7 @@ mod tests {
         assert_eq!(rows.len(), 3);
         for row in rows {
             assert_eq!(row.mornings.len(), BOOKS);
-            assert!(row.mornings.iter().all(|morning| morning.orders.len() == 16));
+            assert!(row.mornings.iter().all(|(_, orders)| orders.len() == 16));
         }
     }
 

@@ -14,6 +14,10 @@ use port::{Ending, Outcome, CAN, CANNOT};
 /// At least so many mornings, so that every ending is seen.
 const LEAST: usize = 400;
 
+/// So many mornings go to one checker before the next one's turn. The kinds of mornings come round in
+/// other numbers (made.rs), so each comes to each checker.
+const TURN: usize = 7;
+
 /// The endings of a morning's orders, and the refusal of a whole morning.
 const ENDINGS: [Ending; 15] = [
     CAN,
@@ -46,20 +50,22 @@ pub fn beside(books: usize) -> usize {
     LEAST.max(books)
 }
 
-/// Runs this many generated mornings; the first difference ends it and is told in words, as is an
-/// ending that was never seen. A checker that takes no mornings is not asked.
+/// Runs this many generated mornings through these checkers in turn, which differ in the rubbish in
+/// the tables that they are lent; the first difference ends it and is told in words, as is an ending
+/// that was never seen. Checkers that take no mornings are not asked.
 pub fn run(
-    tested: &mut dyn UnderTest,
+    tested: &mut [Box<dyn UnderTest>],
     seed: u64,
     mornings: usize,
 ) -> Result<Option<Tally>, String> {
-    if !tested.takes(&morning(seed, 0).into()) {
+    if !tested.iter().all(|checker| checker.takes(&morning(seed, 0).into())) {
         return Ok(None);
     }
     let mut tally = Tally::default();
     for number in 0..mornings {
         let morning = morning(seed, number);
-        compare(tested, &morning, &mut tally).map_err(|difference| {
+        let checker = tested[number / TURN % tested.len()].as_mut();
+        compare(checker, &morning, &mut tally).map_err(|difference| {
             format!("morning {number} of seed {seed}: {difference}\n{}", morning.told())
         })?;
     }
@@ -135,13 +141,22 @@ impl Tally {
 mod tests {
     use super::*;
     use crate::question::Check;
-    use crate::under_test::Program;
+    use crate::under_test::{Port, Program};
     use port::Places;
 
     /// A checker made of a function for a morning and one for a check.
     struct Made {
         morning: fn(&Morning) -> Result<Vec<Outcome>, u32>,
         check: fn(&Check) -> Outcome,
+    }
+
+    impl Made {
+        fn boxed(
+            morning: fn(&Morning) -> Result<Vec<Outcome>, u32>,
+            check: fn(&Check) -> Outcome,
+        ) -> Box<dyn UnderTest> {
+            Box::new(Made { morning, check })
+        }
     }
 
     impl UnderTest for Made {
@@ -163,8 +178,7 @@ mod tests {
 
     /// What is told of a checker whose mornings are made in this way.
     fn difference(morning: fn(&Morning) -> Result<Vec<Outcome>, u32>) -> String {
-        let mut made = Made { morning, check: Check::port_outcome };
-        run(&mut made, 3, LEAST).unwrap_err()
+        run(&mut [Made::boxed(morning, Check::port_outcome)], 3, LEAST).unwrap_err()
     }
 
     /// A morning's orders asked singly, with places and an allowance for the order with each index.
@@ -193,8 +207,7 @@ mod tests {
     #[test]
     fn every_ending_is_seen_and_counted_whatever_the_seed_is() {
         for seed in 1..9 {
-            let mut port = Made { morning: Morning::port_outcomes, check: Check::port_outcome };
-            let tally = run(&mut port, seed, beside(0)).unwrap().unwrap();
+            let tally = run(&mut [Box::new(Port)], seed, beside(0)).unwrap().unwrap();
             assert_eq!(tally.mornings, 400);
             let refused = tally.endings[ENDINGS.len() - 1];
             assert_eq!(tally.endings.iter().sum::<usize>(), tally.singly + refused);
@@ -213,6 +226,20 @@ mod tests {
                    due is `";
         assert!(told.starts_with(due), "{told}");
         assert!(told.contains("\nmorning\nbook "), "{told}");
+    }
+
+    #[test]
+    fn refused_mornings_come_to_each_checker() {
+        let wrong = |morning: &Morning| morning.port_outcomes().map_err(|_| 12);
+        for position in 0..2 {
+            let mut tested: [Box<dyn UnderTest>; 2] = [Box::new(Port), Box::new(Port)];
+            tested[position] = Made::boxed(wrong, Check::port_outcome);
+            let told = run(&mut tested, 3, LEAST).unwrap_err();
+            assert!(
+                told.contains(": made's line 1 is `refused 12 0 0 0`, due is `refused 13"),
+                "{told}"
+            );
+        }
     }
 
     #[test]
@@ -310,7 +337,7 @@ mod tests {
             }
             outcome
         };
-        let mut made = Made { morning: Morning::port_outcomes, check };
+        let mut made = [Made::boxed(Morning::port_outcomes, check)];
         let told = run(&mut made, 3, LEAST).unwrap_err();
         assert!(told.contains(": made's answers to single checks differ: line "), "{told}");
     }
@@ -326,8 +353,8 @@ mod tests {
 
     #[test]
     fn a_program_is_asked_no_morning() {
-        let mut program = Program { path: "./no-such-program".to_string() };
-        assert!(run(&mut program, 1, LEAST).unwrap().is_none());
+        let program = Program { path: "./no-such-program".to_string() };
+        assert!(run(&mut [Box::new(program)], 1, LEAST).unwrap().is_none());
     }
 
     #[test]
