@@ -1,7 +1,7 @@
 -- The places that a part has. Lent, they are the part; and what a check leaves there, put back, is in the part.
 use mathlib.Core.Path.{_≡_, refl, ap, _∙_}
 use mathlib.Core.List.{List, _++_}
-use Prim.Native.Nat.{ℕ, _+_, _-_}
+use Prim.Native.Nat.{ℕ, _+_, _-_, _<_}
 use native.Mathlib.Omega.{arith}
 use lib.ListN.{length, take, drop}
 use lib.Seq.{drop-drop}
@@ -13,6 +13,7 @@ use Rattle.contract.specs.Filled.{Tables, lent, lengths, answerOf, filled, Chec
 use Rattle.contract.proofs.Filling.{tables-equal}
 use Rattle.morning.specs.Parts.{share, end, part, withPart, partOf, withPartOf}
 use Rattle.morning.specs.Morning.{fillPart}
+use Rattle.morning.proofs.Serving.{fill-lengths}
 use Rattle.serving.specs.Promises.{PartIn, ServedPart}
 
 module _ (k i : ℕ) (t : List ℕ) {from to : ℕ} (p : PartIn k i (length t) from to) where
@@ -69,3 +70,8 @@ served-part bytes o allowance k i t a w {cut} {left} {whole} checked word same p
       word = word ∙ ap packed (checked .answer) ∙ ap (λ (l : Tables). packed (answerOf (check bytes o allowance (lengths l)))) same;
       tables = put ∙ ap (withPartOf k i t) (checked .tables ∙ ap (λ (l : Tables). filled (check bytes o allowance (lengths l)) l) same);
     }
+
+-- and no length has changed
+pub served-lengths :
+    {bytes : List ℕ} {o : Order} {allowance k i w : ℕ} {t whole : Tables} → i < k → ServedPart bytes o allowance k i t w whole → lengths whole ≡ lengths t
+served-lengths {bytes} {o} {allowance} {k} {i} {w} {t} {whole} h p = ap lengths (p .tables) ∙ fill-lengths bytes o allowance k i h t

@@ -7,7 +7,6 @@ use Rattle.answer.specs.Packed.{packed}
 use Rattle.answer.specs.declared.Answer.{Answer}
 use Rattle.contract.specs.Filled.{Tables, lent, Checked}
 use Rattle.contract.proofs.Demands.{checked-fits}
-use borrow.Author.Needs.{needs}
 use Rattle.optcheck_c.specs.Exported.{Exported}
 use Rattle.optcheck_c.proofs.optcheck_check.Statement.{statement}
 use Rattle.optcheck_c.proofs.optcheck_check.Tie as tie
@@ -36,7 +35,7 @@ left c =
     lent (last .0) (last .1 .0) (last .1 .1 .0) (last .1 .1 .1 .0) (last .1 .1 .1 .1 .0)
 
 check-requires : tie.Need-check-requires
-check-requires c κs = search needs
+check-requires c κs = tt
 
 word-of-requires : tie.Need-word-of-requires
 word-of-requires c κs =
@@ -44,19 +43,19 @@ word-of-requires c κs =
     checked-fits _ _ _ (before done) (left done) _ (done .check .ensures) (start done .fits .allowance .fits)
 
 same-length : tie.Need-same-length
-same-length c = search needs
+same-length c = check-done (c .before) .check .kept .1 .1 .1 .0
 
 same-length-2 : tie.Need-same-length-2
-same-length-2 c = search needs
+same-length-2 c = check-done (c .before) .check .kept .1 .1 .1 .1 .0
 
 same-length-3 : tie.Need-same-length-3
-same-length-3 c = search needs
+same-length-3 c = check-done (c .before) .check .kept .1 .1 .1 .1 .1 .0
 
 same-length-4 : tie.Need-same-length-4
-same-length-4 c = search needs
+same-length-4 c = check-done (c .before) .check .kept .1 .1 .1 .1 .1 .1 .0
 
 same-length-5 : tie.Need-same-length-5
-same-length-5 c = search needs
+same-length-5 c = check-done (c .before) .check .kept .1 .1 .1 .1 .1 .1 .1 .0
 
 returns : tie.Need-returns
 returns c =

@@ -1,11 +1,12 @@
 -- `serving::serve` meets its contract: the places of each table are the order's part (`Lending`), the check leaves there what it promises, and its answer fits a
 -- word (crate `contract`). Assumes nothing.
+use mathlib.Core.Path.{ap}
 use native.Mathlib.Omega.{arith}
-use borrow.Author.Needs.{needs}
 use Rattle.order.specs.Values.{orderOf}
+use Rattle.contract.specs.Check.{Lengths}
 use Rattle.contract.specs.Filled.{Tables, lent}
 use Rattle.contract.proofs.Demands.{checked-fits}
-use Rattle.serving.proofs.Lending.{cut-tables, put-tables, served-part}
+use Rattle.serving.proofs.Lending.{cut-tables, put-tables, served-part, served-lengths}
 use Rattle.serving.proofs.serve.Statement.{statement}
 use Rattle.serving.proofs.serve.Tie as tie
 
@@ -38,19 +39,19 @@ abbrev before : tie.Start → Tables
 before c = let a = c .args in lent (a .pos .now) (a .neg .now) (a .decided .now) (a .trues .now) (a .redundant .now)
 
 part-requires : tie.Need-part-requires
-part-requires c κs = search needs
+part-requires c κs = c .before .before .before .before .before .before .pre
 
 part-requires-2 : tie.Need-part-requires-2
-part-requires-2 c κs = search needs
+part-requires-2 c κs = start c .pre
 
 part-requires-3 : tie.Need-part-requires-3
-part-requires-3 c κs = search needs
+part-requires-3 c κs = start (c .before) .pre
 
 part-requires-4 : tie.Need-part-requires-4
-part-requires-4 c κs = search needs
+part-requires-4 c κs = start (c .before .before) .pre
 
 part-requires-5 : tie.Need-part-requires-5
-part-requires-5 c κs = search needs
+part-requires-5 c κs = start (c .before .before .before) .pre
 
 mul-check : tie.Need-mul-check
 mul-check c = omega (arith, first c .part .ensures .ends, first c .part .ensures .fits, start (first c) .good)
@@ -121,27 +122,12 @@ part-check-end-5 : tie.Need-part-check-end-5
 part-check-end-5 c = let all = c .before .before .before .before in all .part5 .ensures .fits
 
 check-requires : tie.Need-check-requires
-check-requires c κs = search needs
+check-requires c κs = tt
 
 word-of-requires : tie.Need-word-of-requires
 word-of-requires c κs =
     let done = check-done c in
     checked-fits _ _ _ _ _ _ (done .check .ensures) (start (first (cut done)) .fits .allowance .fits)
-
-same-length : tie.Need-same-length
-same-length c = search needs
-
-same-length-2 : tie.Need-same-length-2
-same-length-2 c = search needs
-
-same-length-3 : tie.Need-same-length-3
-same-length-3 c = search needs
-
-same-length-4 : tie.Need-same-length-4
-same-length-4 c = search needs
-
-same-length-5 : tie.Need-same-length-5
-same-length-5 c = search needs
 
 returns : tie.Need-returns
 returns c =
@@ -154,6 +140,25 @@ returns c =
     (cut-tables (x .k) (x .i) t (first all .part .ensures) (second all .part2 .ensures) (third all .part3 .ensures) (fourth all .part4 .ensures) (all .part5 .ensures))
     (put-tables (x .k) (x .i) t (first all .part .ensures) (second all .part2 .ensures) (third all .part3 .ensures) (fourth all .part4 .ensures) (all .part5 .ensures)
     (lent (last .0) (last .1 .0) (last .1 .1 .0) (last .1 .1 .1 .0) (last .1 .1 .1 .1 .0)))
+
+-- the function's arguments, at the end
+abbrev begun : tie.After-word-of → tie.Start
+begun c = start (first (cut (check-done (c .before))))
+
+same-length : tie.Need-same-length
+same-length c = ap (λ (l : Lengths). l .pos) (served-lengths (begun c .pre) (returns c))
+
+same-length-2 : tie.Need-same-length-2
+same-length-2 c = ap (λ (l : Lengths). l .neg) (served-lengths (begun c .pre) (returns c))
+
+same-length-3 : tie.Need-same-length-3
+same-length-3 c = ap (λ (l : Lengths). l .decided) (served-lengths (begun c .pre) (returns c))
+
+same-length-4 : tie.Need-same-length-4
+same-length-4 c = ap (λ (l : Lengths). l .trues) (served-lengths (begun c .pre) (returns c))
+
+same-length-5 : tie.Need-same-length-5
+same-length-5 c = ap (λ (l : Lengths). l .redundant) (served-lengths (begun c .pre) (returns c))
 
 pub serve-spec : {M : Type 1} → statement M
 serve-spec =
