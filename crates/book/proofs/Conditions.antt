@@ -49,7 +49,7 @@ names-above n p q = (found, each)
         (has-firstOf n (a .0) ∙ le-ltb (a .0) n (a .1))))
 
 -- and of one word
-has-above : (n w : ℕ) → (above n w 0 ≡ true) ↔ HasAbove n w
+pub has-above : (n w : ℕ) → (above n w 0 ≡ true) ↔ HasAbove n w
 has-above n w =
     let one : (k : ℕ) → (has w k || has 0 k) ≡ has w k = λ k. ap (λ b. has w k || b) (has-zero k) ∙ or-false (has w k) in (
       λ h. let a = names-above n w 0 .0 h in (a .0, a .1, sym (one (a .0)) ∙ a .2),

@@ -16,6 +16,7 @@ mod read;
 mod units;
 mod word;
 
+pub use judge::names_above;
 use order::Assumptions;
 use order::Order;
 pub use word::word_at;

@@ -15,6 +15,8 @@ use rows::table;
 mod decide;
 mod tables;
 
+pub use tables::fault as tables_fault;
+
 // Checks the book and the order. The derived rules go into the first places of `pos` and `neg`, whose length is the places; the records into
 // those of `decided`, `trues` and `redundant`.
 pub fn check(

@@ -1,8 +1,13 @@
-// The check and the morning for C and Rust: exported functions on numbers and slices (rust/optcheck/include/optcheck.h is their header).
+// The check, the morning and open options for C and Rust: exported functions on numbers and slices (rust/optcheck/include/optcheck.h is their header).
+ghost use mathlib.Core.Path.{_≡_};
 ghost use Rattle.contract.specs.Filled.{lent};
 ghost use Rattle.morning.specs.Morning.{Serves};
+ghost use Rattle.undecided.specs.Told.{verdictNumber, Told};
 ghost use Rattle.optcheck_c.specs.Exported.{Exported};
+use answer::Answer;
 use order::Order;
+use undecided::Reply;
+use undecided::Verdict;
 
 // Checks the book and the order, fills the lent tables and returns the answer as one word (crate `answer`, `packed`).
 #[no_mangle]
@@ -55,4 +60,63 @@ pub extern "C" fn optcheck_morning(
         trues,
         redundant,
     )
+}
+
+// Tries the settings of the options in `opens` (crate `trying`), and returns the word of the last setting's answer, or that of a refusal. `verdict` is then the
+// number of the verdict and `setting` the last setting tried; a refusal changes neither.
+#[no_mangle]
+pub extern "C" fn optcheck_undecided(
+    book: &[u8],
+    wanted: u64,
+    unwanted: u64,
+    standard: u64,
+    opens: u64,
+    allowance: u32,
+    verdict: &mut u32,
+    setting: &mut u64,
+    pos: &mut [u64],
+    neg: &mut [u64],
+    decided: &mut [u64],
+    trues: &mut [u64],
+    redundant: &mut [u64],
+) -> u64
+    ensures { λ r. ⌜ Told (now (book .entry)) (record { wanted = wanted; unwanted = unwanted; standard = standard }) opens allowance (now (verdict .entry)) (now (setting .entry)) (lent (now (pos .entry)) (now (neg .entry)) (now (decided .entry)) (now (trues .entry)) (now (redundant .entry))) r (now (verdict .exit)) (now (setting .exit)) (lent (now (pos .exit)) (now (neg .exit)) (now (decided .exit)) (now (trues .exit)) (now (redundant .exit))) ⌝ }
+{
+    let order = Order {
+        wanted,
+        unwanted,
+        standard,
+    };
+    match trying::undecided(
+        book,
+        order,
+        opens,
+        allowance,
+        pos,
+        neg,
+        decided,
+        trues,
+        redundant,
+    ) {
+        Reply::Refused(k) => answer::word_of(Answer::Refused(k)),
+        Reply::Tried(found) => {
+            let told = found.verdict;
+            let last = found.last;
+            *verdict = verdict_number(told);
+            *setting = found.setting;
+            answer::word_of(last)
+        }
+    }
+}
+
+// 0 always, 1 sometimes, 2 never, 3 stopped.
+fn verdict_number(v: Verdict) -> u32
+    ensures { λ r. ⌜ r ≡ verdictNumber v ⌝ }
+{
+    match v {
+        Verdict::Always => 0,
+        Verdict::Sometimes => 1,
+        Verdict::Never => 2,
+        Verdict::Stopped => 3,
+    }
 }

@@ -1,7 +1,7 @@
 //! The proved static library as a checker.
 
-use crate::lent::{self, Lent};
-use crate::question::{in_turn, Check, Morning, Question};
+use crate::lent::{morning, open, Lent};
+use crate::question::{in_turn, tried_text, Check, Morning, Open, Question};
 use crate::under_test::UnderTest;
 
 /// The library, with this rubbish in the tables that it is lent.
@@ -18,7 +18,7 @@ impl UnderTest for Library {
     fn takes(&self, question: &Question) -> bool {
         match question {
             Question::Check(check) => check.parts().is_some(),
-            Question::Morning(_) => true,
+            Question::Morning(_) | Question::Open(_) => true,
         }
     }
 
@@ -26,6 +26,7 @@ impl UnderTest for Library {
         match question {
             Question::Check(check) => self.check(check),
             Question::Morning(morning) => self.morning(morning),
+            Question::Open(open) => self.open(open),
         }
     }
 }
@@ -41,9 +42,17 @@ impl Library {
     fn morning(&self, morning: &Morning) -> Result<String, String> {
         let Morning { book, orders, places, allowance } = morning;
         let words: Vec<u64> = orders.iter().flat_map(|order| order.words()).collect();
-        let outcomes = lent::morning(places, orders.len(), self.rubbish, |answers, tables| {
+        let outcomes = morning::lend(places, orders.len(), self.rubbish, |answers, tables| {
             optcheck::morning_words(book, &words, *allowance, answers, tables)
         })?;
         Ok(in_turn(&outcomes))
+    }
+
+    fn open(&self, question: &Open) -> Result<String, String> {
+        let Open { book, order, open, places, allowance } = question;
+        let tried = open::lend(places, *open, self.rubbish, |verdict, setting, tables| {
+            optcheck::undecided_words(book, *order, *open, *allowance, verdict, setting, tables)
+        })?;
+        Ok(tried_text(&tried))
     }
 }

@@ -1,8 +1,25 @@
-//! What generated orders have beside their wishes: standard options, and faults for which they are
-//! refused.
+//! Generated orders, and what they have beside their wishes: standard options, and faults for which
+//! they are refused.
 
 use crate::random::Random;
-use optbook::{option, Order};
+use crate::shapes;
+use optbook::{option, Order, OPTIONS};
+
+/// An order, which is refused in one of four cases where it can be.
+pub fn some_order(random: &mut Random, options: usize) -> Order {
+    let one_of = random.between(2, 12);
+    let wishes = shapes::order(random, options, one_of);
+    let order = with_standard(random, wishes, options);
+    if !(1..OPTIONS).contains(&options) {
+        return order;
+    }
+    match random.below(12) {
+        0 => above(random, order, options),
+        1 => contradictory(random, order, options),
+        2 => standard_above(random, order, options),
+        _ => order,
+    }
+}
 
 /// The order with standard options, in half of the cases: about half of its wanted and unwanted
 /// ones, and each option in one of so many cases.

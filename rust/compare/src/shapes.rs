@@ -144,7 +144,7 @@ pub fn order(random: &mut Random, options: usize, one_of: usize) -> Order {
 }
 
 /// So many different options by index, or all where there are fewer.
-fn distinct(random: &mut Random, options: usize, count: usize) -> Vec<usize> {
+pub fn distinct(random: &mut Random, options: usize, count: usize) -> Vec<usize> {
     let mut chosen: Vec<usize> = Vec::new();
     while chosen.len() < count.min(options) {
         let index = random.below(options);
@@ -155,7 +155,8 @@ fn distinct(random: &mut Random, options: usize, count: usize) -> Vec<usize> {
     chosen
 }
 
-fn union(indices: &[usize]) -> u64 {
+/// The options with these indices, as a set.
+pub fn union(indices: &[usize]) -> u64 {
     indices.iter().fold(0, |set, &index| set | option(index))
 }
 

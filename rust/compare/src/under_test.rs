@@ -58,7 +58,7 @@ impl UnderTest for Program {
 fn standard_input(question: &Question) -> Option<&[u8]> {
     match question {
         Question::Check(check) if check.is_of_program() => Some(&check.input),
-        Question::Check(_) | Question::Morning(_) => None,
+        Question::Check(_) | Question::Morning(_) | Question::Open(_) => None,
     }
 }
 
@@ -80,8 +80,8 @@ fn run(path: &str, input: &[u8]) -> std::io::Result<String> {
 mod tests {
     use super::*;
     use crate::kinds::case;
-    use crate::mornings;
     use crate::question::Check;
+    use crate::{mornings, undecided};
 
     #[test]
     fn a_program_gets_the_input_and_its_output_comes_back() {
@@ -110,5 +110,6 @@ mod tests {
         assert!(!program.takes(&own.with_limits(own.places, 3).into()));
         assert!(program.takes(&own.into()));
         assert!(!program.takes(&mornings::morning(1, 1).into()));
+        assert!(!program.takes(&undecided::open(1, 1).into()));
     }
 }

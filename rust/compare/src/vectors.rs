@@ -10,7 +10,7 @@ use std::collections::BTreeMap;
 use std::fmt::Write;
 
 /// Questions of the format that no checker answers yet.
-const NOT_YET: [&str; 7] = ["sites", "page", "desk", "join", "turns", "cheapest", "open"];
+const NOT_YET: [&str; 6] = ["sites", "page", "desk", "join", "turns", "cheapest"];
 
 /// A case: its name, what is asked, and what must be printed.
 struct Vector {
@@ -143,6 +143,13 @@ mod tests {
                        order 0 0 0\norder 0 0 1\nout\n\
                        can 0 0 0 0\nrefused 12 0 0 0\nend\n";
 
+    /// The book of the rule "not 1", and option 1 open: fitted it needs a branching.
+    const OPEN: &str = "case open\nopen\n\
+                        book 010100\
+                        00000000000000000100000000000000\n\
+                        allowance 0\ntables 1 1 64 65 66\norder 0 0 0\nundecided 1\nout\n\
+                        stopped 1\nstopped 10 0 0 0\nend\n";
+
     fn through_the_port(text: &str) -> Result<(Score, String), String> {
         run(&mut [Box::new(Port)], text)
     }
@@ -193,6 +200,16 @@ mod tests {
     }
 
     #[test]
+    fn what_was_tried_stands_before_the_last_setting() {
+        let (score, told) = through_the_port(OPEN).unwrap();
+        assert_eq!((score.agree, told.as_str()), (1, ""));
+        let wanted = OPEN.replace("order 0 0 0", "order 1 0 0");
+        let (_, told) = through_the_port(&wanted).unwrap();
+        let due = "line 1 is `refused 20 0 0 0`, due is `stopped 1`";
+        assert_eq!(told, format!("case open differs, port: {due}\n"));
+    }
+
+    #[test]
     fn what_is_not_known_yet_is_skipped_by_name() {
         let desk = "case a desk\ndesk 3\nset 1 fitted\nout\n0\n0\norder 1 0\nend\n";
         let (score, told) = through_the_port(&format!("{SMALL}{desk}")).unwrap();
@@ -223,8 +240,13 @@ mod tests {
     #[test]
     fn the_stored_cases_agree_through_the_port() {
         let folder = concat!(env!("CARGO_MANIFEST_DIR"), "/../../tests/vectors");
-        let files =
-            [("p01.txt", 419), ("check.txt", 250), ("reading.txt", 420), ("morning.txt", 250)];
+        let files = [
+            ("p01.txt", 419),
+            ("check.txt", 250),
+            ("reading.txt", 420),
+            ("morning.txt", 250),
+            ("open.txt", 250),
+        ];
         for (file, cases) in files {
             let text = std::fs::read_to_string(format!("{folder}/{file}")).unwrap();
             let (score, told) = through_the_port(&text).unwrap();

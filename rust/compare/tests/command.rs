@@ -45,11 +45,14 @@ fn a_vector_that_differs_is_named() {
 
 #[test]
 fn a_question_that_a_program_does_not_take_is_named_and_no_difference() {
-    let output = compare(&["vectors", &vectors("morning.txt"), "--program", "cat"]);
-    assert_eq!(output.status.code(), Some(0), "{}", said(&output));
-    let told = String::from_utf8_lossy(&output.stdout);
-    assert!(told.contains("\nnot asked of the program cat (250): 0, 1, 2, 3, "), "{told}");
-    assert!(told.ends_with("program cat, port: 250 cases agree, 0 differ, 0 skipped\n"), "{told}");
+    for file in ["morning.txt", "open.txt"] {
+        let output = compare(&["vectors", &vectors(file), "--program", "cat"]);
+        assert_eq!(output.status.code(), Some(0), "{}", said(&output));
+        let told = String::from_utf8_lossy(&output.stdout);
+        assert!(told.contains("\nnot asked of the program cat (250): 0, 1, 2, 3, "), "{told}");
+        let last = "program cat, port: 250 cases agree, 0 differ, 0 skipped\n";
+        assert!(told.ends_with(last), "{told}");
+    }
 }
 
 #[test]

@@ -1,12 +1,14 @@
-//! The proved check, and that of a morning's orders together, through the wrapper: tables are lent to
-//! the library, and what it wrote into them is taken out. Each answer here is the library's own.
+//! The proved check, that of a morning's orders together, and that of every setting of open options,
+//! through the wrapper: tables are lent to the library, and what it wrote into them is taken out. Each
+//! answer here is the library's own.
 
 #[cfg(feature = "proved")]
 use crate::lent::Lent;
 use crate::{Book, Order, Rule};
-pub use optcheck::{Answer, Kind};
+pub use optcheck::{Answer, Kind, Verdict};
 
-/// What a check may use, and each check of a morning: branchings, and places for derived rules.
+/// What a check may use, each check of a morning, and each setting of open options: branchings, and
+/// places for derived rules.
 #[derive(Clone, Copy, Debug, PartialEq, Eq)]
 pub struct Limits {
     pub allowance: u32,
@@ -32,6 +34,19 @@ pub struct Checked {
 /// What a morning ends with: what each order's check does, in turn, or the number of the refusal of all
 /// of them.
 pub type Morning = Result<Vec<Checked>, u32>;
+
+/// The settings of open options that were tried: what they give together, the last of them, as the set
+/// of the open options that are fitted, and what its check ended with.
+#[derive(Clone, Debug, PartialEq, Eq)]
+pub struct Tried {
+    pub verdict: Verdict,
+    pub setting: u64,
+    pub last: Checked,
+}
+
+/// What an order with open options ends with: the settings that were tried, or the number of the
+/// refusal.
+pub type Undecided = Result<Tried, u32>;
 
 /// The proved library is not linked.
 #[derive(Clone, Copy, Debug, PartialEq, Eq)]
@@ -73,6 +88,23 @@ pub fn morning(book: &Book, orders: &[Order], limits: Limits) -> Result<Morning,
     Ok(answers.map(checked))
 }
 
+/// The proved checks of an order with every setting of its open options, each with these limits.
+#[cfg(feature = "proved")]
+pub fn undecided(
+    book: &Book,
+    order: Order,
+    open: u64,
+    limits: Limits,
+) -> Result<Undecided, Unlinked> {
+    let mut lent = Lent::new(1, limits.places);
+    let bytes = crate::bytes::book_bytes(book);
+    let tried = optcheck::undecided(&bytes, order, open, limits.allowance, lent.tables());
+    Ok(tried.map(|optcheck::Tried { verdict, setting, last }| {
+        let last = lent.checked(0, last);
+        Tried { verdict, setting, last }
+    }))
+}
+
 /// Without the library nothing is checked.
 #[cfg(not(feature = "proved"))]
 pub fn check(_: &Book, _: Order, _: Limits) -> Result<Checked, Unlinked> {
@@ -82,5 +114,11 @@ pub fn check(_: &Book, _: Order, _: Limits) -> Result<Checked, Unlinked> {
 /// Without the library nothing is checked.
 #[cfg(not(feature = "proved"))]
 pub fn morning(_: &Book, _: &[Order], _: Limits) -> Result<Morning, Unlinked> {
+    Err(Unlinked)
+}
+
+/// Without the library nothing is checked.
+#[cfg(not(feature = "proved"))]
+pub fn undecided(_: &Book, _: Order, _: u64, _: Limits) -> Result<Undecided, Unlinked> {
     Err(Unlinked)
 }

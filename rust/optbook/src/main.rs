@@ -5,6 +5,7 @@ mod arguments;
 mod ending;
 mod files;
 mod verbs;
+mod waiting;
 
 use arguments::Arguments;
 use ending::{Failure, Printed};

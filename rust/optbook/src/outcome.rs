@@ -4,22 +4,27 @@
 use crate::engine::{Answer, Checked, Kind, Record};
 use crate::text::{rule_text, set_text};
 
-/// What each refusal (1 to 9, 12, and 13 of a morning) and each stop (10 and 11) says, by its number.
-const REASONS: [&str; 13] = [
-    "the book has fewer than 3 bytes",
-    "the book has more than 64 options",
-    "the book has more than 1,024 rules",
-    "the book's length is not 3 + 16 for each rule",
-    "a rule names an option above the book's last",
-    "a rule has one option in both words",
-    "a wanted or an unwanted option is above the book's last",
-    "an option is both wanted and unwanted",
-    "the places for derived rules are more than 2,048",
-    "another branching is due and the allowance is spent",
-    "a new derived rule is due and all its places are full",
-    "a standard option is above the book's last",
-    "the number of orders is not 1 to 16",
-];
+/// What each refusal and each stop says, by its number.
+fn reason(number: u32) -> &'static str {
+    match number {
+        1 => "the book has fewer than 3 bytes",
+        2 => "the book has more than 64 options",
+        3 => "the book has more than 1,024 rules",
+        4 => "the book's length is not 3 + 16 for each rule",
+        5 => "a rule names an option above the book's last",
+        6 => "a rule has one option in both words",
+        7 => "a wanted or an unwanted option is above the book's last",
+        8 => "an option is both wanted and unwanted",
+        9 => "the places for derived rules are more than 2,048",
+        10 => "another branching is due and the allowance is spent",
+        11 => "a new derived rule is due and all its places are full",
+        12 => "a standard option is above the book's last",
+        13 => "the number of orders is not 1 to 16",
+        19 => "more than 10 options are open, or one is above the book's last",
+        20 => "an open option is also wanted or unwanted",
+        _ => "no number of the table",
+    }
+}
 
 /// The outcome in words, over options with these names.
 pub fn in_words(checked: &Checked, names: &[String]) -> String {
@@ -35,9 +40,7 @@ pub fn in_words(checked: &Checked, names: &[String]) -> String {
 
 /// How a check ended.
 pub fn ending(answer: Answer) -> String {
-    let number = answer.number;
-    let reason = number.checked_sub(1).and_then(|index| REASONS.get(index as usize));
-    let reason = reason.unwrap_or(&"no number of the table");
+    let (number, reason) = (answer.number, reason(answer.number));
     match answer.kind {
         Kind::Can => "can be built: some choice of options keeps every rule and wish".to_string(),
         Kind::Cannot => {
@@ -104,6 +107,11 @@ mod tests {
         assert_eq!(told(Kind::Refused, 12), twelve);
         let thirteen = "refused, number 13: the number of orders is not 1 to 16";
         assert_eq!(told(Kind::Refused, 13), thirteen);
+        let nineteen =
+            "refused, number 19: more than 10 options are open, or one is above the book's last";
+        assert_eq!(told(Kind::Refused, 19), nineteen);
+        let twenty = "refused, number 20: an open option is also wanted or unwanted";
+        assert_eq!(told(Kind::Refused, 20), twenty);
         assert_eq!(told(Kind::Refused, 63), "refused, number 63: no number of the table");
     }
 

@@ -231,7 +231,7 @@ impl Sheet {
     }
 
     /// The option with this name, as a set.
-    fn find(&self, name: &str) -> Result<u64, String> {
+    pub fn find(&self, name: &str) -> Result<u64, String> {
         check_name(name)?;
         match self.names.iter().position(|known| known == name) {
             Some(index) => Ok(option(index)),

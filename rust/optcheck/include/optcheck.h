@@ -1,11 +1,12 @@
 /*
  * The option book checker, for C. One call checks an order against a book, writes the outcome into
  * tables that the caller lends, and returns the answer as one word; another checks several orders
- * of one book. Every length is permitted: a bad one is a refusal.
+ * of one book; a third checks an order with every setting of options that are left open. Every
+ * length is permitted: a bad one is a refusal.
  *
- * The book, the orders, the answers and each table are a pointer and a length in elements. No two
- * of them overlap; the book and the orders are only read. A pointer with the length 0 is not used,
- * and must not be null.
+ * The book, the orders, the answers and each table are a pointer and a length in elements, and a
+ * verdict and a setting are pointers. No two of them overlap; the book and the orders are only
+ * read. A pointer with the length 0 is not used, and must not be null.
  */
 
 #ifndef OPTCHECK_H
@@ -18,12 +19,13 @@
 extern "C" {
 #endif
 
-/* The limits of a book, of the lent tables and of a morning. */
+/* The limits of a book, of the lent tables, of a morning and of open options. */
 #define OPTCHECK_OPTIONS 64u
 #define OPTCHECK_RULES 1024u
 #define OPTCHECK_DERIVED_PLACES 2048u /* pos and neg: equal lengths, at most this */
 #define OPTCHECK_RECORD_PLACES 64u    /* decided, trues and redundant: at least this */
 #define OPTCHECK_ORDERS 16u           /* a morning: at least one order, at most this */
+#define OPTCHECK_OPEN 10u             /* open options: at most this */
 
 /*
  * Checks the order (wanted, unwanted, standard) against the book, with at most `allowance`
@@ -72,11 +74,47 @@ uint32_t optcheck_morning(
     uint64_t *trues, size_t trues_len,
     uint64_t *redundant, size_t redundant_len);
 
+/*
+ * Tries every setting of the open options, each of which may be fitted or left out. A setting is
+ * the set of those that are fitted: the settings are the subsets of `open` in ascending order as
+ * words, 0 first and `open` last. Each is tried as by optcheck_check, with at most `allowance`
+ * branchings of its own: the open options in the setting are wanted and the other open ones
+ * unwanted, beside the order's own wishes, and a standard option that is open is not standard.
+ * Before each setting all five tables are set to 0 throughout.
+ *
+ *   verdict  OPTCHECK_ALWAYS, OPTCHECK_SOMETIMES or OPTCHECK_NEVER: all settings, some but not
+ *            all, or none can be built; OPTCHECK_STOPPED where a setting stopped
+ *   setting  the last setting tried: that which stopped, and else `open`
+ *
+ * All settings are tried, even once the verdict is clear, but the first stop ends it. The result
+ * is the word of the answer to the last setting tried. The tables hold what it wrote, and zeros
+ * after it.
+ *
+ * Where it is refused, the result is the refusal's word, and neither the verdict, the setting nor
+ * a table is touched. The numbers are those of optcheck_check, and two more, which follow 12 and
+ * come before 9: 19, more than OPTCHECK_OPEN options are open or one is above the book's last;
+ * 20, an open option is also wanted or unwanted. No option need be open.
+ */
+uint64_t optcheck_undecided(
+    const uint8_t *book, size_t book_len,
+    uint64_t wanted, uint64_t unwanted, uint64_t standard, uint64_t open, uint32_t allowance,
+    uint32_t *verdict, uint64_t *setting,
+    uint64_t *pos, size_t pos_len,
+    uint64_t *neg, size_t neg_len,
+    uint64_t *decided, size_t decided_len,
+    uint64_t *trues, size_t trues_len,
+    uint64_t *redundant, size_t redundant_len);
+
 /* The kinds of an answer. */
 #define OPTCHECK_CAN 0u
 #define OPTCHECK_CANNOT 1u
 #define OPTCHECK_REFUSED 2u
 #define OPTCHECK_STOPPED 3u
+
+/* The verdicts on open options, beside OPTCHECK_STOPPED. */
+#define OPTCHECK_ALWAYS 0u
+#define OPTCHECK_SOMETIMES 1u
+#define OPTCHECK_NEVER 2u
 
 /*
  * The parts of the answer's word, lowest bits first: 2 bits kind, 6 number, 32 branchings,
@@ -88,7 +126,8 @@ static inline unsigned optcheck_kind(uint64_t answer) { return (unsigned)(answer
 
 /*
  * 0 for a verdict, 1 to 9 or 12 refused (12: a standard option above the book's last), 10 or 11
- * stopped. 13 is no answer's number: a morning that is refused has no answers.
+ * stopped. 19 and 20 are refusals of optcheck_undecided alone. 13 is no answer's number: a morning
+ * that is refused has no answers.
  */
 static inline unsigned optcheck_number(uint64_t answer) { return (unsigned)(answer >> 2 & 63); }
 

@@ -1,16 +1,18 @@
-//! A safe wrapper over the proved checker's static library (include/optcheck.h). `check` and
-//! `morning` are there with the feature `proved`; without it nothing is linked.
+//! A safe wrapper over the proved checker's static library (include/optcheck.h). `check`, `morning`
+//! and `undecided` are there with the feature `proved`; without it nothing is linked.
 
 mod answer;
 #[cfg(feature = "proved")]
 mod library;
 mod order;
+mod tried;
 
 pub use answer::{Answer, Kind};
 #[cfg(feature = "proved")]
-pub use library::{check, check_word, morning, morning_words};
+pub use library::{check, check_word, morning, morning_words, undecided, undecided_words};
 pub use order::Order;
 use std::ops::Range;
+pub use tried::{Tried, Verdict};
 
 /// The lent tables: two for derived rules, three for records. A bad length is a refusal.
 pub struct Tables<'a> {

@@ -17,6 +17,17 @@ impl Order {
         Order { wanted: wanted | (standard & !unwanted), unwanted, standard: 0 }
     }
 
+    /// The order with a setting of its open options: those in the setting are wanted, the other open
+    /// ones unwanted, and none of them is standard.
+    pub fn with_setting(self, open: u64, setting: u64) -> Order {
+        let Order { wanted, unwanted, standard } = self;
+        Order {
+            wanted: wanted | setting,
+            unwanted: unwanted | (open & !setting),
+            standard: standard & !open,
+        }
+    }
+
     /// The three sets, in the sequence in which the library takes them.
     pub fn words(self) -> [u64; 3] {
         [self.wanted, self.unwanted, self.standard]
@@ -37,6 +48,14 @@ mod tests {
         assert_eq!(completed(0b0001, 0b0010, 0b1110), (0b1101, 0b0010, 0));
         assert_eq!(completed(0, 0, 1 << 63), (1 << 63, 0, 0));
         assert_eq!(completed(0, u64::MAX, u64::MAX), (0, u64::MAX, 0));
+    }
+
+    #[test]
+    fn an_open_option_is_wanted_or_unwanted_and_not_standard() {
+        let order = Order { wanted: 0b00001, unwanted: 0b00010, standard: 0b10111 };
+        assert_eq!(order.with_setting(0b01100, 0b00100).words(), [0b00101, 0b01010, 0b10011]);
+        assert_eq!(order.with_setting(0b01100, 0).words(), [0b00001, 0b01110, 0b10011]);
+        assert_eq!(order.with_setting(0, 0), order);
     }
 
     #[test]

@@ -2,8 +2,9 @@
 //! 64-bit words. It shares no text with the proved checker, so that the two can be compared.
 //!
 //! `check` takes a book's bytes, an order, the lent places and an allowance, and gives the outcome.
-//! `morning` takes several orders of one book, and gives the outcome of each. `run_program` does what
-//! the program does with its standard input.
+//! `morning` takes several orders of one book, and gives the outcome of each. `undecided` takes an order
+//! with open options, and tries every setting of them. `run_program` does what the program does with its
+//! standard input.
 
 mod book;
 mod morning;
@@ -11,10 +12,12 @@ mod outcome;
 mod program;
 mod request;
 mod steps;
+mod undecided;
 mod words;
 
 pub use morning::{morning, Morning};
 pub use outcome::{Ending, Outcome, CAN, CANNOT};
 pub use program::{run_program, PROGRAM_ALLOWANCE, PROGRAM_PLACES, PROGRAM_RECORD_PLACES};
 pub use request::{check, Order, Places, Request};
+pub use undecided::{undecided, Tables, Tried, Undecided, Verdict};
 pub use words::{Decisions, Record, Rule};

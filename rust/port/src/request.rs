@@ -23,7 +23,8 @@ impl Places {
         Places { derived: [derived; 2], records: [records; 3] }
     }
 
-    fn are_permitted(&self) -> bool {
+    /// No length is refused.
+    pub fn are_permitted(&self) -> bool {
         let [fitted, left_out] = self.derived;
         fitted == left_out
             && fitted <= DERIVED_PLACES
@@ -60,11 +61,20 @@ pub fn check(request: &Request) -> Outcome {
     }
 }
 
-/// The book, where nothing is refused; else the refusal's number, 1 to 9 or 12. A standard option
-/// above n, which is 12, comes right after 8.
+/// The book, where nothing is refused; else the refusal's number, 1 to 9 or 12.
 fn accepted(request: &Request) -> Result<Book, u32> {
-    let book = book::read(request.book)?;
-    let Order { wanted, unwanted, standard } = request.order;
+    let book = book_with_order(request.book, request.order)?;
+    match request.places.are_permitted() {
+        true => Ok(book),
+        false => Err(9),
+    }
+}
+
+/// The book, where neither it nor the order is refused; else the refusal's number, 1 to 8 or 12. A
+/// standard option above n, which is 12, comes right after 8.
+pub fn book_with_order(book: &[u8], order: Order) -> Result<Book, u32> {
+    let book = book::read(book)?;
+    let Order { wanted, unwanted, standard } = order;
     if (wanted | unwanted) & !first(book.n) != 0 {
         return Err(7);
     }
@@ -73,9 +83,6 @@ fn accepted(request: &Request) -> Result<Book, u32> {
     }
     if standard & !first(book.n) != 0 {
         return Err(12);
-    }
-    if !request.places.are_permitted() {
-        return Err(9);
     }
     Ok(book)
 }
@@ -91,7 +98,7 @@ fn order_rules(order: Order) -> Vec<Rule> {
 }
 
 /// The options of a set, lowest first, each as a set.
-fn members(mut set: u64) -> Vec<u64> {
+pub fn members(mut set: u64) -> Vec<u64> {
     let mut members = Vec::new();
     while set != 0 {
         members.push(lowest(set));

@@ -1,8 +1,10 @@
 //! The same books through the library, the port, the outside solvers whose libraries are there and an
 //! outside solver's process, in one run and in turns, as a table; mornings through the library as a
-//! second one. Times are medians of repeated runs; ratios hold across machines, times do not.
+//! second one, and open options as a third. Times are medians of repeated runs; ratios hold across
+//! machines, times do not.
 
 mod morning;
+mod open;
 
 use crate::in_process::{Clauses, InProcess};
 use crate::outside::Solver;
@@ -71,7 +73,8 @@ pub fn run(
         "Tables were not cleared between runs: the library's are lent once for all of them, and \
          the port makes its own for each."
     );
-    morning::run(seed)
+    morning::run(seed)?;
+    open::run(seed)
 }
 
 /// The head of the table, after a note on each solver that is missing.

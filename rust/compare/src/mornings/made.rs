@@ -1,12 +1,12 @@
 //! Generated mornings. Morning number i of a seed is the same wherever it is made.
 
 use crate::kinds::{wishes_and_book, Kind};
-use crate::orders::{above, contradictory, standard_above, with_standard};
+use crate::orders::some_order;
 use crate::question::{Check, Morning};
 use crate::random::Random;
-use crate::shapes;
+use crate::refused::refused_bytes;
 use optbook::bytes::{book_bytes, input_bytes};
-use optbook::{Book, Order, OPTIONS};
+use optbook::Order;
 use port::{Outcome, Places};
 use std::ops::RangeInclusive;
 
@@ -48,7 +48,7 @@ fn book(random: &mut Random, number: usize, count: usize) -> (usize, Vec<u8>) {
     match refusal(random, number, count) {
         Some(refusal) => {
             let (_, book) = wishes_and_book(random, Kind::AboveN);
-            (book.options, refused(random, &book, refusal))
+            (book.options, refused_bytes(random, &book, refusal))
         }
         None => {
             let (_, book) = wishes_and_book(random, KINDS[number % KINDS.len()]);
@@ -67,57 +67,17 @@ fn refusal(random: &mut Random, number: usize, count: usize) -> Option<usize> {
     }
 }
 
-/// The bytes of a book, so changed that they are refused with this number, 1 to 6. The book has a
-/// rule, an option, and not all options.
-fn refused(random: &mut Random, book: &Book, number: usize) -> Vec<u8> {
-    let mut bytes = book_bytes(book);
-    let rules = book.rules.len();
-    let fitted = 3 + 8 * random.below(rules);
-    let left_out = fitted + 8 * rules;
-    match number {
-        1 => bytes.truncate(random.below(3)),
-        2 => bytes[0] = random.between(OPTIONS + 1, 255) as u8,
-        3 => {
-            let many = random.between(optbook::RULES + 1, 65_535) as u16;
-            bytes[1..3].copy_from_slice(&many.to_le_bytes());
-        }
-        4 => bytes.truncate(random.between(3, bytes.len() - 1)),
-        5 => bytes[fitted + book.options / 8] |= 1 << (book.options % 8),
-        _ => {
-            bytes[fitted] |= 1;
-            bytes[left_out] |= 1;
-        }
-    }
-    bytes
-}
-
 /// So many orders. An order may come again.
 fn orders(random: &mut Random, options: usize, count: usize) -> Vec<Order> {
     let mut orders: Vec<Order> = Vec::new();
     while orders.len() < count {
         let order = match !orders.is_empty() && random.chance(1, 5) {
             true => orders[random.below(orders.len())],
-            false => order(random, options),
+            false => some_order(random, options),
         };
         orders.push(order);
     }
     orders
-}
-
-/// An order, which is refused in one of four cases where it can be.
-fn order(random: &mut Random, options: usize) -> Order {
-    let one_of = random.between(2, 12);
-    let wishes = shapes::order(random, options, one_of);
-    let order = with_standard(random, wishes, options);
-    if !(1..OPTIONS).contains(&options) {
-        return order;
-    }
-    match random.below(12) {
-        0 => above(random, order, options),
-        1 => contradictory(random, order, options),
-        2 => standard_above(random, order, options),
-        _ => order,
-    }
 }
 
 /// What one of the orders needs; nothing where there is none.
@@ -214,19 +174,6 @@ mod tests {
     fn every_number_of_orders_comes() {
         for orders in (0..=18).chain([40]) {
             assert!(come(1, |morning| morning.orders.len() == orders), "{orders} orders");
-        }
-    }
-
-    #[test]
-    fn each_refused_book_is_refused_with_its_number() {
-        let mut random = Random::new(1);
-        for number in 1..=6 {
-            for _ in 0..50 {
-                let (order, book) = wishes_and_book(&mut random, Kind::AboveN);
-                let input = input_bytes(order, &refused(&mut random, &book, number));
-                let ending = Check::of_program(input).port_outcome().ending;
-                assert_eq!(ending, Ending::Refused(number as u32));
-            }
         }
     }
 

@@ -164,14 +164,15 @@ mod tests {
             "made".to_string()
         }
 
-        fn takes(&self, _: &Question) -> bool {
-            true
+        fn takes(&self, question: &Question) -> bool {
+            matches!(question, Question::Check(_) | Question::Morning(_))
         }
 
         fn printed(&mut self, question: &Question) -> Result<String, String> {
             match question {
                 Question::Check(check) => Ok((self.check)(check).to_string()),
                 Question::Morning(morning) => Ok(in_turn(&(self.morning)(morning))),
+                Question::Open(_) => Err("open options".to_string()),
             }
         }
     }

@@ -4,9 +4,11 @@
 
 mod check;
 mod morning;
+mod open;
 
 pub use check::{Check, ORDER};
 pub use morning::Morning;
+pub use open::{tried_text, verdict_name, Open};
 
 use crate::fields::key_and_value;
 use crate::hex::bytes;
@@ -17,6 +19,7 @@ use port::{Ending, Outcome};
 pub enum Question {
     Check(Check),
     Morning(Morning),
+    Open(Open),
 }
 
 impl Question {
@@ -27,6 +30,7 @@ impl Question {
             ("in", hex) if fields.is_empty() => Ok(Check::of_program(bytes(hex)?).into()),
             ("check", "") => Ok(Check::read(fields)?.into()),
             ("morning", "") => Ok(Morning::read(fields)?.into()),
+            ("open", "") => Ok(Open::read(fields)?.into()),
             (key, _) => Err(format!("`{key}` is no question")),
         }
     }
@@ -36,6 +40,7 @@ impl Question {
         match self {
             Question::Check(check) => check.port_outcome().to_string(),
             Question::Morning(morning) => in_turn(&morning.port_outcomes()),
+            Question::Open(open) => tried_text(&open.port_tried()),
         }
     }
 }
@@ -49,6 +54,12 @@ impl From<Check> for Question {
 impl From<Morning> for Question {
     fn from(morning: Morning) -> Question {
         Question::Morning(morning)
+    }
+}
+
+impl From<Open> for Question {
+    fn from(open: Open) -> Question {
+        Question::Open(open)
     }
 }
 

@@ -6,6 +6,7 @@ mod dimacs;
 mod explain;
 mod from_dimacs;
 mod morning;
+mod open;
 mod text;
 
 use crate::arguments::{Arguments, Files};
@@ -16,6 +17,7 @@ use crate::ending::{Failure, Printed};
 pub const VERBS: &[Verb] = &[
     check::VERB,
     morning::VERB,
+    open::VERB,
     explain::VERB,
     bytes::VERB,
     text::VERB,
@@ -63,8 +65,8 @@ pub fn help() -> String {
 
 const FORM: &str = "
 BOOK and ORDER are readable texts, which are read one after the other; - is standard input. ORDERS
-are several such texts, each read after BOOK. `optbook VERB --help` tells more of a verb. A text has
-one thing a line:
+are several such texts, each read after BOOK, and NAMES are names of options. `optbook VERB --help`
+tells more of a verb. A text has one thing a line:
 
   options: ring_main twin_header third_vessel
   ring_main | twin_header | !third_vessel      # a rule; ! says left out
@@ -74,6 +76,7 @@ one thing a line:
 
 Exit status: check and explain end with 0 where the order can be built, 1 where it cannot, 2 where
 the checker refuses it, 3 where it stops without a verdict, and morning with the highest of its
-orders; the other verbs with 0. All end with 64 on a bad command line, with 65 where what is read has
-a mistake or cannot be read, and with 74 where the output cannot be written.
+orders; open with 0 where every setting can be built, 1 where none can, 2 and 3 likewise, and 4 where
+some can but not all; the other verbs with 0. All end with 64 on a bad command line, with 65 where what
+is read has a mistake or cannot be read, and with 74 where the output cannot be written.
 ";

@@ -3,7 +3,8 @@
 
 use crate::run::{optbook, CAN, PLANT};
 
-const VERBS: [&str; 7] = ["check", "morning", "explain", "bytes", "text", "dimacs", "from-dimacs"];
+const VERBS: [&str; 8] =
+    ["check", "morning", "open", "explain", "bytes", "text", "dimacs", "from-dimacs"];
 
 #[test]
 fn the_plant_goes_to_bytes_and_back() {
@@ -59,7 +60,7 @@ fn a_clause_that_is_always_kept_is_left_out_and_told() {
 
 #[test]
 fn a_mistake_is_told_once_with_file_line_and_what_was_expected() {
-    for verb in ["check", "morning", "explain", "bytes", "dimacs"] {
+    for verb in ["check", "morning", "open", "explain", "bytes", "dimacs"] {
         let ended = optbook(&[verb, PLANT, "-"], b"\nwant: dram\n");
         let due = "optbook: standard input: line 2: no option is named `dram`: expected a name of \
                    an `options:` line\n";
@@ -96,6 +97,24 @@ fn an_order_of_a_morning_has_no_options_and_no_rules() {
 }
 
 #[test]
+fn a_mistake_in_the_names_of_open_options_is_told() {
+    let due = [
+        (&["roof", "dram"][..], "no option is named `dram`: expected a name of an `options:` line"),
+        (&["roof", "tunnel", "roof"], "`roof` stands twice: expected it once"),
+        (
+            &["2nd"],
+            "`2nd` is no option's name: expected letters, digits and underscores, with no digit \
+             first",
+        ),
+    ];
+    for (names, what) in due {
+        let ended = optbook(&[&["open", PLANT, CAN][..], names].concat(), b"");
+        assert_eq!((ended.said, ended.status), (format!("optbook: NAMES: {what}\n"), 65));
+        assert!(ended.printed.is_empty());
+    }
+}
+
+#[test]
 fn what_cannot_be_read_is_told_with_its_file() {
     let ended = optbook(&["bytes", "no-such-file"], b"");
     assert!(ended.said.starts_with("optbook: no-such-file: "), "{}", ended.said);
@@ -128,6 +147,7 @@ fn a_bad_command_line_ends_with_64_and_says_how() {
         (&["text", "a", "b"], "2 files are given: expected 1"),
         (&["morning"], "0 files are given: expected 1 at least"),
         (&["morning", PLANT, "--names", PLANT], "`--names` is unknown here"),
+        (&["open", PLANT], "1 files are given: expected 2 at least"),
         (&["check", "-", "-"], "`-` stands twice: standard input is read once"),
         (&["bytes", PLANT, "--places", "1"], "`--places` is unknown here"),
         (
@@ -171,7 +191,7 @@ fn the_help_has_an_example_of_each_verb() {
 #[cfg(not(feature = "proved"))]
 #[test]
 fn without_the_library_nothing_is_checked() {
-    for verb in ["check", "morning", "explain"] {
+    for verb in ["check", "morning", "open", "explain"] {
         let ended = optbook(&[verb, PLANT, CAN], b"");
         assert!(ended.said.starts_with("optbook: built without the proved library"));
         assert_eq!((ended.status, ended.printed.len()), (69, 0));

@@ -4,5 +4,7 @@ mod forms;
 #[cfg(feature = "proved")]
 mod morning;
 #[cfg(feature = "proved")]
+mod open;
+#[cfg(feature = "proved")]
 mod proved;
 mod run;

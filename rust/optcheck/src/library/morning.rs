@@ -1,27 +1,8 @@
-//! The calls into the static library.
+//! Several orders of one book: `optcheck_morning`.
 
 use crate::{Answer, Order, Tables};
 
 extern "C" {
-    fn optcheck_check(
-        book: *const u8,
-        book_len: usize,
-        wanted: u64,
-        unwanted: u64,
-        standard: u64,
-        allowance: u32,
-        pos: *mut u64,
-        pos_len: usize,
-        neg: *mut u64,
-        neg_len: usize,
-        decided: *mut u64,
-        decided_len: usize,
-        trues: *mut u64,
-        trues_len: usize,
-        redundant: *mut u64,
-        redundant_len: usize,
-    ) -> u64;
-
     fn optcheck_morning(
         book: *const u8,
         book_len: usize,
@@ -41,39 +22,6 @@ extern "C" {
         redundant: *mut u64,
         redundant_len: usize,
     ) -> u32;
-}
-
-/// Checks an order against a book with at most this many branchings.
-pub fn check(book: &[u8], order: Order, allowance: u32, tables: Tables) -> Answer {
-    Answer::of_word(check_word(book, order, allowance, tables))
-}
-
-/// The same check, with the answer as its word.
-pub fn check_word(book: &[u8], order: Order, allowance: u32, tables: Tables) -> u64 {
-    let Order { wanted, unwanted, standard } = order;
-    let Tables { pos, neg, decided, trues, redundant } = tables;
-    // Safety: each pointer goes with the length of the slice that it is taken from, the slices are
-    // borrowed for the call, and no two of them overlap.
-    unsafe {
-        optcheck_check(
-            book.as_ptr(),
-            book.len(),
-            wanted,
-            unwanted,
-            standard,
-            allowance,
-            pos.as_mut_ptr(),
-            pos.len(),
-            neg.as_mut_ptr(),
-            neg.len(),
-            decided.as_mut_ptr(),
-            decided.len(),
-            trues.as_mut_ptr(),
-            trues.len(),
-            redundant.as_mut_ptr(),
-            redundant.len(),
-        )
-    }
 }
 
 /// Checks each of a morning's orders against a book, each with at most this many branchings and in
@@ -104,7 +52,7 @@ pub fn morning_words(
     tables: Tables,
 ) -> u32 {
     let Tables { pos, neg, decided, trues, redundant } = tables;
-    // Safety: as above.
+    // Safety: as of `check_word`.
     unsafe {
         optcheck_morning(
             book.as_ptr(),
@@ -131,32 +79,8 @@ pub fn morning_words(
 #[cfg(test)]
 mod tests {
     use super::*;
+    use crate::library::small::{answer, lend, pair, q, rubbish, RUBBISH};
     use crate::Kind;
-
-    const RUBBISH: u64 = 0xa5a5_5a5a_a5a5_5a5a;
-
-    /// A book of n options: the fitted words of its rules, and then the left-out words.
-    fn book(n: u8, words: &[u64]) -> Vec<u8> {
-        let mut book = vec![n, words.len() as u8 / 2, 0];
-        words.iter().for_each(|word| book.extend(word.to_le_bytes()));
-        book
-    }
-
-    /// n 1, the rules "1" and "not 1". The outcome of an empty order is `cannot 0 1 1 1`, the derived
-    /// rule 0 0 and the record 0 0 1.
-    fn pair() -> Vec<u8> {
-        book(1, &[1, 0, 0, 1])
-    }
-
-    /// Five tables of these lengths, full of rubbish.
-    fn rubbish(lengths: [usize; 5]) -> [Vec<u64>; 5] {
-        lengths.map(|length| vec![RUBBISH; length])
-    }
-
-    fn lend(tables: &mut [Vec<u64>; 5]) -> Tables<'_> {
-        let [pos, neg, decided, trues, redundant] = tables;
-        Tables { pos, neg, decided, trues, redundant }
-    }
 
     /// A table of this length with these words at these places, and rubbish elsewhere.
     fn table(length: usize, written: &[(usize, u64)]) -> Vec<u64> {
@@ -165,18 +89,13 @@ mod tests {
         table
     }
 
-    fn answer(kind: Kind, number: u32, count: usize) -> Answer {
-        Answer { kind, number, branchings: count as u32, derived: count, records: count }
-    }
-
     /// The marked book Q with three of its marked orders. The parts have 2, 2, 64, 65 and 66 places,
     /// and the first two tables leave remainders.
     #[test]
     fn each_order_writes_in_its_own_part() {
-        let q = book(3, &[3, 4, 0, 0, 1, 6]);
         let wanted = |wanted| Order { wanted, ..Order::default() };
         let mut tables = rubbish([7, 8, 192, 195, 198]);
-        let answers = morning(&q, &[wanted(0), wanted(1), wanted(6)], 2, lend(&mut tables));
+        let answers = morning(&q(), &[wanted(0), wanted(1), wanted(6)], 2, lend(&mut tables));
         let can = Answer { branchings: 1, records: 2, ..answer(Kind::Can, 0, 0) };
         let cannot = Answer { branchings: 2, derived: 2, ..answer(Kind::Cannot, 0, 1) };
         assert_eq!(answers, Ok(vec![can, can, cannot]));

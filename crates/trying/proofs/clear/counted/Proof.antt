@@ -1,0 +1,60 @@
+-- `trying::clear::counted` meets its contract: each table is cleared by itself. Assumes nothing.
+use Rattle.contract.proofs.Filling.{tables-equal}
+use borrow.Author.Needs.{needs}
+use Rattle.trying.proofs.clear.counted.Statement.{statement}
+use Rattle.trying.proofs.clear.counted.Tie as tie
+
+first-places-requires : tie.Need-first-places-requires
+first-places-requires c κs = search needs
+
+first-places-requires-2 : tie.Need-first-places-requires-2
+first-places-requires-2 c κs = search needs
+
+first-places-requires-3 : tie.Need-first-places-requires-3
+first-places-requires-3 c κs = search needs
+
+first-places-requires-4 : tie.Need-first-places-requires-4
+first-places-requires-4 c κs = search needs
+
+first-places-requires-5 : tie.Need-first-places-requires-5
+first-places-requires-5 c κs = search needs
+
+same-length : tie.Need-same-length
+same-length c = search needs
+
+same-length-2 : tie.Need-same-length-2
+same-length-2 c = search needs
+
+same-length-3 : tie.Need-same-length-3
+same-length-3 c = search needs
+
+same-length-4 : tie.Need-same-length-4
+same-length-4 c = search needs
+
+same-length-5 : tie.Need-same-length-5
+same-length-5 c = search needs
+
+returns : tie.Need-returns
+returns c =
+    tables-equal
+    (c .before .before .before .before .before .before .before .before .before .before .before .before .before .before .before .before .before .before .first-places .ensures)
+    (c .before .before .before .before .before .before .before .before .before .before .before .before .before .before .first-places2 .ensures)
+    (c .before .before .before .before .before .before .before .before .before .before .first-places3 .ensures)
+    (c .before .before .before .before .before .before .first-places4 .ensures)
+    (c .before .before .first-places5 .ensures)
+
+pub counted-spec : {M : Type 1} → statement M
+counted-spec =
+    tie.close
+    (tie.spec
+    first-places-requires
+    first-places-requires-2
+    first-places-requires-3
+    first-places-requires-4
+    first-places-requires-5
+    same-length
+    same-length-2
+    same-length-3
+    same-length-4
+    same-length-5
+    returns)

@@ -1,0 +1,76 @@
+-- `trying::undecided` meets its contract: a refusal changes nothing, and else the tables are cleared and the settings tried. Assumes nothing.
+use Rattle.order.specs.Values.{orderOf}
+use Rattle.contract.specs.Filled.{Tables, lent}
+use Rattle.trying.proofs.Going.{ready, replies-refused, replies-tried}
+use borrow.Author.Needs.{needs}
+use Rattle.trying.proofs.undecided.Statement.{statement}
+use Rattle.trying.proofs.undecided.Tie as tie
+
+-- the lent tables
+abbrev tables : tie.Start → Tables
+tables c = let a = c .args in lent (a .pos .now) (a .neg .now) (a .decided .now) (a .trues .now) (a .redundant .now)
+
+refusal-requires : tie.Need-refusal-requires
+refusal-requires c κs = search needs
+
+enum-known-k : tie.Need-enum-known-k
+enum-known-k c = search needs
+
+enum-told : tie.Need-enum-told
+enum-told c = search needs
+
+all-requires : tie.Need-all-requires
+all-requires c κs = search needs
+
+try-all-requires : tie.Need-try-all-requires
+try-all-requires c κs = ready (tables (c .before .before .before .before .before .before .before .before .before .before .before .before .before .before .before .before .before .before .before .before .before .before .before .before .before .before .before .before .before .before)) _ (c .before .before .before .before .before .before .before .before .before .before .before .before .before .before .before .all .ensures)
+
+returns : tie.Need-returns
+returns c =
+    let begin = c .before .before .before .before .before .before .before .before .before .before in
+    let a = begin .args in
+    let judged = c .before .before .before .refusal in
+    replies-refused (a .book .now) (orderOf (a .o)) (a .opens) (a .allowance) (tables begin) (judged .result) (judged .ensures) _ (c .before .k .given .1)
+
+same-length : tie.Need-same-length
+same-length c = search needs
+
+same-length-2 : tie.Need-same-length-2
+same-length-2 c = search needs
+
+same-length-3 : tie.Need-same-length-3
+same-length-3 c = search needs
+
+same-length-4 : tie.Need-same-length-4
+same-length-4 c = search needs
+
+same-length-5 : tie.Need-same-length-5
+same-length-5 c = search needs
+
+returns-2 : tie.Need-returns-2
+returns-2 c =
+    let begin = c .before .before .before .before .before .before .before .before .before .before .before .before .before .before .before .before .before .before .before .before .before .before .before .before .before .before .before .before .before .before .before .before .before .before .before .before .before .before .before .before .before in
+    let a = begin .args in
+    let judged = c .before .before .before .before .before .before .before .before .before .before .before .before .before .before .before .before .before .before .before .before .before .before .before .before .before .before .before .before .before .before .before .before .before .before .refusal in
+    let cleared = c .before .before .before .before .before .before .before .before .before .before .before .before .before .before .before .before .before .before .before .before .before .before .before .before .before .before .all in
+    let all = c .before .before .before .before .before .before .before .before .before .before .try-all in
+    replies-tried (a .book .now) (orderOf (a .o)) (a .opens) (a .allowance) (tables begin) (judged .result) (judged .ensures) _ (all .result) _ (c .before .before .before .before .before .before .before .before .before .before .before .before .before .before .before .before .before .before .before .before .before .before .before .before .before .before .before .before .before .before .before .before .enum-told .given .1)
+    (cleared .ensures)
+    (all .ensures)
+
+pub undecided-spec : {M : Type 1} → statement M
+undecided-spec =
+    tie.close
+    (tie.spec
+    refusal-requires
+    enum-known-k
+    enum-told
+    all-requires
+    try-all-requires
+    returns
+    same-length
+    same-length-2
+    same-length-3
+    same-length-4
+    same-length-5
+    returns-2)

@@ -1,0 +1,3 @@
+-- What the functions of this crate promise. The definition and the demands are in crate `undecided`.
+pub mod Values
+pub mod Promises

@@ -1,0 +1,11 @@
+//! The calls into the static library, each in a file of its own.
+
+mod check;
+mod morning;
+#[cfg(test)]
+mod small;
+mod undecided;
+
+pub use check::{check, check_word};
+pub use morning::{morning, morning_words};
+pub use undecided::{undecided, undecided_words};
