@@ -3,7 +3,7 @@
 use mathlib.Core.Path.{_≡_, refl, sym, _∙_}
 use mathlib.Core.Bool.{Bool, true, false}
 use mathlib.Core.List.{List, [], _∷_, _++_}
-use mathlib.Core.Logic.{_↔_, inl, inr, ⊎-elim}
+use mathlib.Core.Logic.{_⊎_, _↔_, inl, inr, ⊎-elim}
 use mathlib.Core.Option.{some, none}
 use Prim.Native.Nat.{ℕ}
 use Rattle.words.proofs.Truth.{both-ways, clash, refuted}
@@ -105,3 +105,30 @@ none-found (r ∷ rs) (a ∷ cs) d h =
 
 pub none-iff : (rs : List Row) (cs : List Condition) → Decides rs cs → (firstRow rs ≡ none) ↔ NoRow cs
 none-iff rs cs d = (none-holds rs cs d, none-found rs cs d)
+
+-- ---- two lists of conditions
+
+-- the first condition of two lists is in one of them
+pub first-split : (cs ds : List Condition) (k : ℕ) → First (cs ++ ds) k → First cs k ⊎ First ds k
+first-split [] ds k f = inr f
+first-split (a ∷ cs) ds k (inl here) = inl (inl here)
+first-split (a ∷ cs) ds k (inr later) = ⊎-elim (λ f. inl (inr (later .0, f))) (λ f. inr f) (first-split cs ds k (later .1))
+
+-- the first condition of a list is the first of a longer one
+pub first-front : (cs ds : List Condition) (k : ℕ) → First cs k → First (cs ++ ds) k
+first-front [] ds k f = absurd f
+first-front (a ∷ cs) ds k (inl here) = inl here
+first-front (a ∷ cs) ds k (inr later) = inr (later .0, first-front cs ds k (later .1))
+
+-- no condition of two lists holds
+pub no-rows : (cs ds : List Condition) → NoRow cs → NoRow ds → NoRow (cs ++ ds)
+no-rows [] ds h g = g
+no-rows (a ∷ cs) ds h g = (h .0, no-rows cs ds (h .1) g)
+
+pub no-first : (cs ds : List Condition) → NoRow (cs ++ ds) → NoRow cs
+no-first [] ds h = tt
+no-first (a ∷ cs) ds h = (h .0, no-first cs ds (h .1))
+
+pub no-second : (cs ds : List Condition) → NoRow (cs ++ ds) → NoRow ds
+no-second [] ds h = h
+no-second (a ∷ cs) ds h = no-second cs ds (h .1)

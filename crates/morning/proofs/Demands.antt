@@ -3,7 +3,7 @@
 use mathlib.Core.Path.{_≡_, refl, sym, ap, ap₂, subst, subst⁻¹, _∙_}
 use mathlib.Core.Bool.{Bool, true, false}
 use mathlib.Core.List.{List, [], _∷_, _++_}
-use mathlib.Core.Logic.{_⊎_, _↔_, inl, inr}
+use mathlib.Core.Logic.{_⊎_, _↔_}
 use Prim.Native.Nat.{ℕ, zero, suc, _+_, _*_, _^_, _<_}
 use native.Mathlib.Nat.{zero-add, add-zero}
 use native.Mathlib.Omega.{arith}
@@ -14,7 +14,8 @@ use Rattle.rows.proofs.Lists.{from-length}
 use Rattle.steps.specs.State.{Ending, Ending.can, Ending.cannot, Ending.outOfBranchings, Ending.outOfClauses}
 use Rattle.steps.specs.Run.{Outcome}
 use Rattle.order.specs.Order.{Order}
-use Rattle.book.specs.Conditions.{Condition, First, bookConditions, admitConditions}
+use Rattle.book.specs.Conditions.{First, bookConditions, admitConditions}
+use Rattle.book.proofs.Refusals.{first-front}
 use Rattle.answer.specs.Answer.{tallyOf, endOf, tallyIn}
 use Rattle.answer.specs.Packed.{packed, unpacked}
 use Rattle.answer.specs.declared.Tally.{Tally}
@@ -225,12 +226,6 @@ answer-refused (ran r) j e = go (r .ending) e
     go cannot f = clash cc
     go outOfBranchings f = clash cc
     go outOfClauses f = clash cc
-
--- the first of the first conditions is the first of all
-first-front : (cs bs : List Condition) (j : ℕ) → First cs j → First (cs ++ bs) j
-first-front [] bs j f = absurd f
-first-front (a ∷ cs) bs j (inl f) = inl f
-first-front (a ∷ cs) bs j (inr f) = inr (f .0, first-front cs bs j (f .1))
 
 module _ (bytes : List ℕ) (o : Order) (allowance : ℕ) (before after : Tables) (w : ℕ) (asked : Checked bytes o allowance before (unpacked w) after) where
   refused-check : (j : ℕ) → unpacked w ≡ Refused j → check bytes o allowance (lengths before) ≡ refused j

@@ -48,7 +48,7 @@ drop-zeros (suc k) zero = let none : 0 - suc k ≡ 0 = omega arith in ap (λ (m 
 drop-zeros (suc k) (suc n) = let same : suc n - suc k ≡ n - k = omega arith in drop-zeros k n ∙ ap (λ (m : ℕ). replicate m 0) (sym same)
 
 -- words that were written into zeros, cleared
-pub written-cleared : (k n : ℕ) (ws : List ℕ) → length ws ≡ k → k ≤ n → written (replicate k 0) (written ws (replicate n 0)) ≡ replicate n 0
+written-cleared : (k n : ℕ) (ws : List ℕ) → length ws ≡ k → k ≤ n → written (replicate k 0) (written ws (replicate n 0)) ≡ replicate n 0
 written-cleared k n ws e h =
     ap (λ (j : ℕ). replicate k 0 ++ drop j (written ws (replicate n 0))) (length-replicate {A = ℕ} k 0)
     ∙ ap (λ (l : List ℕ). replicate k 0 ++ l)

@@ -1,7 +1,7 @@
 -- The loop over the settings. After a setting the tables hold what its check wrote into zeros, and the settings that are left are the rest of the list, of which
 -- the next one is the first.
 use mathlib.Core.Path.{_≡_, refl, sym, ap, subst, subst⁻¹, _∙_}
-use mathlib.Core.Bool.{Bool, true, false, not, _&&_, _||_, and-true, and-false, or-true, or-false}
+use mathlib.Core.Bool.{Bool, true, false, not, _&&_, _||_, and-true, and-false, and-assoc, or-true, or-false, or-assoc}
 use mathlib.Core.List.{List, [], _∷_}
 use mathlib.Core.Logic.{_⊎_, inl, inr, _≢_}
 use Prim.Native.Nat.{ℕ, _^_, _≤_, _<_}
@@ -16,13 +16,13 @@ use Rattle.contract.specs.Check.{Lengths, check}
 use Rattle.contract.specs.Filled.{Tables, lengths, answerOf, filled, Checked}
 use Rattle.contract.proofs.Filling.{checked-lengths}
 use Rattle.undecided.specs.Settings.{settings, nextSetting}
-use Rattle.undecided.specs.Undecided.{undecidedRows, withSetting, answerTo, zeroed, isCan, isStop, lastTried, allCan, someCan, verdictBy, triedTo, lastSetting, triedAll, Replies}
+use Rattle.undecided.specs.Undecided.{undecidedRows, withSetting, answerTo, zeroed, isCan, isStop, lastTried, allCan, someCan, verdictBy, triedTo, triedOn, tablesAfter, lastSetting, triedAll, Replies}
 use Rattle.undecided.specs.declared.Verdict.{Verdict}
 use Rattle.undecided.specs.declared.Tried.{Tried}
 use Rattle.undecided.specs.declared.Reply.the-variants.{Refused, Tried as tried}
 use Rattle.undecided.proofs.Walk.{Walk, walk-below, walked}
 use Rattle.undecided.proofs.Trying.{last-stops, last-goes}
-use Rattle.undecided.proofs.Tables.{zeroed-lengths, zeroed-same, tried-same}
+use Rattle.undecided.proofs.Tables.{zeroed-lengths, zeroed-same, after-all, tried-same}
 use Rattle.undecided.proofs.Judging.{left-refused, left-tried}
 use Rattle.trying.specs.Promises.{Ready, Stands, Went, TriesAll}
 use Rattle.trying.specs.Values.{judgedOf}
@@ -113,14 +113,6 @@ module _ (bytes : List ℕ) (o : Order) (opens allowance : ℕ) (l : Lengths) wh
         same-lengths = w .same-lengths ∙ same;
       }
 
-  and-assoc : (p q r : Bool) → (p && (q && r)) ≡ ((p && q) && r)
-  and-assoc true q r = refl
-  and-assoc false q r = refl
-
-  or-assoc : (p q r : Bool) → (p || (q || r)) ≡ ((p || q) || r)
-  or-assoc true q r = refl
-  or-assoc false q r = refl
-
   module _ (g : Going) (t : Tables) (h : Reached g t) where
     -- no setting is above the open word
     pub reached-below : g .setting ≤ opens
@@ -156,12 +148,12 @@ module _ (bytes : List ℕ) (o : Order) (opens allowance : ℕ) (l : Lengths) wh
                     last = last ∙ last-goes f 0 (g .setting) (u ∷ rest) goes ∙ ap (λ (s : ℕ). lastTried f 0 (s ∷ rest)) (sym is);
                     every =
                         every
-                        ∙ and-assoc (g .all) (isCan (f u)) (allCan f rest)
+                        ∙ sym (and-assoc (g .all) (isCan (f u)) (allCan f rest))
                         ∙ ap (λ (x : Answer). (g .all && isCan x) && allCan f rest) (sym answered)
                         ∙ ap (λ (b : Bool). b && allCan f rest) (sym (w .every));
                     some =
                         some
-                        ∙ or-assoc (g .any) (isCan (f u)) (someCan f rest)
+                        ∙ sym (or-assoc (g .any) (isCan (f u)) (someCan f rest))
                         ∙ ap (λ (x : Answer). (g .any || isCan x) || someCan f rest) (sym answered)
                         ∙ ap (λ (b : Bool). b || someCan f rest) (sym (w .some));
                     stands = stands;
@@ -229,11 +221,12 @@ tries-all bytes o opens allowance before g t h r ended is =
     ∙ ap (λ (a : Answer). record { verdict = verdictBy (isStop a) (allCan f (settings opens)) (someCan f (settings opens)); setting = g .setting; last = a }) (sym answered)
     ∙ ap (triedTo f (settings opens)) (sym (ended .setting))
     in
-    let tables : t ≡ filled (check bytes (withSetting o opens s) allowance (lengths before)) (zeroed before) =
+    let tables : t ≡ tablesAfter bytes o opens allowance before (settings opens) =
     h .stands .tables
     ∙ ap (λ (l : Lengths). filled (check bytes (withSetting o opens (g .setting)) allowance l) (zeroed t)) (h .same-lengths)
     ∙ ap (filled (check bytes (withSetting o opens (g .setting)) allowance (lengths before))) (zeroed-same t before (h .same-lengths))
-    ∙ ap (λ (u : ℕ). filled (check bytes (withSetting o opens u) allowance (lengths before)) (zeroed before)) (sym (ended .setting))
+    ∙ ap (triedOn bytes o opens allowance before) (sym (ended .setting))
+    ∙ sym (after-all bytes o opens allowance before)
     in
     record { left = cc (reply, tables) }
 

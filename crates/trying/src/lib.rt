@@ -12,7 +12,7 @@ mod judge;
 mod setting;
 mod turn;
 
-// Tries every setting of the options in `opens`, lowest word first: an order with the open options of the setting wanted and the others unwanted. A refusal
+// Tries every setting of the options in `opens`, lowest word first: the order, with the open options of the setting wanted and the other open ones unwanted. A refusal
 // changes nothing. Otherwise the tables are cleared before each setting, and keep what the last one wrote, with zeros after it.
 pub fn undecided(
     book: &[u8],
@@ -95,5 +95,5 @@ fn try_all(
             redundant,
         );
     }
-    turn::told(g)
+    turn::summary(g)
 }

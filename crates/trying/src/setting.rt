@@ -6,7 +6,7 @@ ghost use Rattle.undecided.specs.Settings.{nextSetting};
 ghost use Rattle.undecided.specs.Undecided.{withSetting};
 use order::Order;
 
-// The setting after s: s - opens, which wraps, and of that what `opens` has.
+// The setting after s: s less `opens` in 64 bits, and of that what `opens` has.
 pub fn after(opens: u64, s: u64) -> u64
     requires { ⌜ s < opens ⌝ }
     ensures { λ r. ⌜ r ≡ nextSetting opens s ⌝ }

@@ -115,7 +115,7 @@ pub fn goes_on(g: Going, opens: u64) -> bool
 }
 
 // What the settings come to, where the last one was tried.
-pub fn told(g: Going) -> Tried
+pub fn summary(g: Going) -> Tried
     ensures { λ r. ⌜ r ≡ record { verdict = verdictBy (isStop (g .last)) (g .all) (g .any); setting = g .setting; last = g .last } ⌝ }
 {
     let last = g.last;

@@ -10,7 +10,7 @@ use Rattle.book.specs.Conditions.{NoRow}
 use Rattle.answer.specs.Packed.{unpacked, Packable}
 use Rattle.answer.specs.declared.Tally.{Tally}
 use Rattle.answer.specs.declared.Answer.{Answer}
-use Rattle.answer.specs.declared.Answer.the-variants.{Refused as Unread, Stopped as Short}
+use Rattle.answer.specs.declared.Answer.the-variants.{Refused as CheckRefused, Stopped as CheckStopped}
 use Rattle.answer.proofs.Demands.{inverse}
 use Rattle.contract.specs.Check.{Lengths}
 use Rattle.contract.specs.Filled.{Tables, lengths}
@@ -25,10 +25,10 @@ use Rattle.undecided.specs.declared.Reply.the-variants.{Refused, Tried a
 use Rattle.undecided.proofs.Subsets.{all-settings}
 use Rattle.undecided.proofs.Walk.{visiting}
 use Rattle.undecided.proofs.Judging.{outcomeOf, left-tried, judged, tried-passed, no-row, tried-is, refusals, refused-number}
-use Rattle.undecided.proofs.Wishes.{as-wishes, keeping}
+use Rattle.undecided.proofs.Wishes.{as-wishes, none-open, keeping}
 use Rattle.undecided.proofs.Tables.{tried-same}
 use Rattle.undecided.proofs.Examples.{examples}
-use Rattle.undecided.proofs.Found.{always-enough-for, bought, found-small, found-within, in-turn, last-wrote, named, right-verdict, stopped}
+use Rattle.undecided.proofs.Found.{always-enough-for, bought, found-small, found-within, in-turn, last-wrote, named, right-verdict}
 
 -- ---- of what the reply has
 
@@ -54,9 +54,9 @@ tables-kept bytes o opens allowance t x e =
     (last-wrote bytes o opens allowance t (passed bytes o opens allowance t x e))
 
 buying : Buying
-buying bytes o opens allowance t x e r settled =
-    subst⁻¹ (Bought opens allowance (length (t .pos)) r) (same bytes o opens allowance t x e)
-    (bought bytes o opens allowance t (passed bytes o opens allowance t x e) r settled)
+buying bytes o opens allowance t x e r =
+    subst⁻¹ (Bought bytes o opens allowance (length (t .pos)) r) (same bytes o opens allowance t x e)
+    (bought bytes o opens allowance t (passed bytes o opens allowance t x e) r)
 
 always-enough : AlwaysEnough
 always-enough bytes o opens allowance t x e h g v =
@@ -74,7 +74,7 @@ setting-fits bytes o opens allowance t x e =
     (found-small bytes o opens allowance t (passed bytes o opens allowance t x e))
 
 -- and so does a refusal
-pub refused-fits : (bytes : List ℕ) (o : Order) (opens allowance : ℕ) (t : Tables) (k : ℕ) → undecided bytes o opens allowance t .reply ≡ Refused k → Packable (Unread k)
+pub refused-fits : (bytes : List ℕ) (o : Order) (opens allowance : ℕ) (t : Tables) (k : ℕ) → undecided bytes o opens allowance t .reply ≡ Refused k → Packable (CheckRefused k)
 refused-fits bytes o opens allowance t k e =
     let n = refused-number bytes o opens (lengths t) k (judged bytes o opens allowance t .refused k .0 e) in
     record {
@@ -100,6 +100,7 @@ taking bytes o opens allowance v s before w v′ s′ after few told =
             ap unpacked (told .word ∙ ap wordIn e) ∙ inverse _ (last-fits bytes o opens allowance before x few e),
             set,
             subst⁻¹ (λ (u : ℕ). u < 2 ^ 64) set (setting-fits bytes o opens allowance before x e),
+            told .tables,
           );
       always = λ x e is. verdict-is x e ∙ ap verdictNumber is;
       sometimes = λ x e is. verdict-is x e ∙ ap verdictNumber is;
@@ -126,7 +127,7 @@ answers bytes o opens allowance t = go (undecided bytes o opens allowance t .rep
     go (tried x) e =
         let h = passed bytes o opens allowance t x e in
         let is = ap (λ (y : Tried). y .last) (same bytes o opens allowance t x e) in
-        subst⁻¹ (λ (a : Answer). IsVerdict a ⊎ ((k : ℕ) × (c : Tally) × (a ≡ Short k c) × ((k ≡ 10) ⊎ (k ≡ 11)))) is
+        subst⁻¹ (λ (a : Answer). IsVerdict a ⊎ ((k : ℕ) × (c : Tally) × (a ≡ CheckStopped k c) × ((k ≡ 10) ⊎ (k ≡ 11)))) is
         (named bytes o opens allowance t h (outcomeOf bytes o opens allowance t .setting) (found-within bytes o opens allowance t h))
 
 -- ---- all of them
@@ -139,6 +140,7 @@ demands =
       all-settings = all-settings;
       visiting = visiting;
       as-wishes = as-wishes;
+      none-open = none-open;
       keeping = keeping;
       trying = trying;
       verdicts = verdicts;

@@ -24,4 +24,4 @@ unfolding
     check complete tablesFault firstRow above ruleRows bookRows orderRows admitRows bytesOf number wordAt wordsIn pair clausesIn flat encode
     minus meets firstOf lowest membersUpTo members ones onesIn vars keepers satisfied falsified names undecidedIn without unfixed live
     allInactive monotone firstMonotone sweep unit swept falsifiedNaming enter covers resolvent join merge step search units finish searched run
-examples = record { sometimes = refl; stopped = refl; always = refl; never = refl; refused = refl }
+examples = record { sometimes = refl; stopped = refl; always = refl; never = refl; beside = refl; refused = refl; eleven = refl; above-n = refl; ten = refl; unwanted-too = refl; then-nine = refl; twelve-first = refl }

@@ -18,7 +18,7 @@ use Rattle.book.specs.Bytes.{varsIn, rulesIn}
 use Rattle.book.specs.Conditions.{NoRow}
 use Rattle.answer.specs.declared.Tally.{Tally}
 use Rattle.answer.specs.declared.Answer.{Answer}
-use Rattle.answer.specs.declared.Answer.the-variants.{Can, Cannot, Refused as Unread, Stopped as Short}
+use Rattle.answer.specs.declared.Answer.the-variants.{Can, Cannot, Refused as CheckRefused, Stopped as CheckStopped}
 use Rattle.contract.specs.Check.{Lengths, Result, Result.ran, outcome, check}
 use Rattle.contract.specs.Filled.{Tables, lengths, answerOf, filled}
 use Rattle.contract.specs.Demands.{Permitted, RightOutcome, Uncovered, Settled, IsVerdict}
@@ -27,8 +27,8 @@ use Rattle.contract.proofs.Filling.{ran-spent}
 use Rattle.contract.proofs.NeverCovered.{never-covered}
 use Rattle.contract.proofs.Demands as contract
 use Rattle.undecided.specs.Settings.{settings}
-use Rattle.undecided.specs.Undecided.{withSetting, zeroed, isCan, isStop, lastTried, allCan, someCan, verdictBy, triedAll, Left, undecided}
-use Rattle.undecided.specs.Demands.{undecidedConditions, BuildableWith, Stops, single, InTurn, RightVerdict, Holds, LastWrote, Bought}
+use Rattle.undecided.specs.Undecided.{withSetting, zeroed, triedOn, isCan, isStop, lastTried, allCan, someCan, verdictBy, triedAll, Left, undecided}
+use Rattle.undecided.specs.Demands.{undecidedConditions, BuildableWith, Stops, single, InTurn, RightVerdict, WordsThenZeros, LastWrote, Bought}
 use Rattle.undecided.specs.declared.Verdict.the-variants.{Stopped}
 use Rattle.undecided.specs.declared.Tried.{Tried}
 use Rattle.undecided.proofs.Subsets.{all-settings}
@@ -36,7 +36,7 @@ use Rattle.undecided.proofs.Walk.{walked, walk-ends}
 use Rattle.undecided.proofs.Judging.{outcomeOf, left-tried, no-row}
 use Rattle.undecided.proofs.Wishes.{keeping, open-small, setting-passes}
 use Rattle.undecided.proofs.Trying.{Place, place, first-stop, all-can, each-can, not-all, some-can, one-can, stops-verdict, always-verdict, sometimes-verdict, never-verdict}
-use Rattle.undecided.proofs.Tables.{zeroed-lengths, holds}
+use Rattle.undecided.proofs.Tables.{zeroed-lengths, after-all, holds}
 
 -- ---- answers that stop
 
@@ -44,8 +44,8 @@ use Rattle.undecided.proofs.Tables.{zeroed-lengths, holds}
 stop-is : (a : Answer) → isStop a ≡ true → Stops a
 stop-is (Can t) e = both-ways false e refl
 stop-is (Cannot t) e = both-ways false e refl
-stop-is (Unread k) e = both-ways false e refl
-stop-is (Short k t) e = (k, t, refl)
+stop-is (CheckRefused k) e = both-ways false e refl
+stop-is (CheckStopped k t) e = (k, t, refl)
 
 is-stop : (a : Answer) → Stops a → isStop a ≡ true
 is-stop a h = ap isStop (h .2)
@@ -57,8 +57,8 @@ no-stop a e h = both-ways (isStop a) (is-stop a h) e
 verdict-goes : (a : Answer) → IsVerdict a → isStop a ≡ false
 verdict-goes (Can t) v = refl
 verdict-goes (Cannot t) v = refl
-verdict-goes (Unread k) v = absurd v
-verdict-goes (Short k t) v = absurd v
+verdict-goes (CheckRefused k) v = absurd v
+verdict-goes (CheckStopped k t) v = absurd v
 
 -- ---- what was tried
 
@@ -160,10 +160,10 @@ module _ (bytes : List ℕ) (o : Order) (opens allowance : ℕ) (t : Tables) (pa
         go outOfClauses e = both-ways (isStop (f s)) (ap isStop (right .told .stop-clauses e)) on
 
     -- its answer is a verdict or a named stop
-    pub named : IsVerdict (f s) ⊎ ((k : ℕ) × (c : Tally) × (f s ≡ Short k c) × ((k ≡ 10) ⊎ (k ≡ 11)))
+    pub named : IsVerdict (f s) ⊎ ((k : ℕ) × (c : Tally) × (f s ≡ CheckStopped k c) × ((k ≡ 10) ⊎ (k ≡ 11)))
     named = go (r .ending) refl
       where
-        go : (x : Ending) → r .ending ≡ x → IsVerdict (f s) ⊎ ((k : ℕ) × (c : Tally) × (f s ≡ Short k c) × ((k ≡ 10) ⊎ (k ≡ 11)))
+        go : (x : Ending) → r .ending ≡ x → IsVerdict (f s) ⊎ ((k : ℕ) × (c : Tally) × (f s ≡ CheckStopped k c) × ((k ≡ 10) ⊎ (k ≡ 11)))
         go can e = inl (subst⁻¹ IsVerdict (right .told .can e) tt)
         go cannot e = inl (subst⁻¹ IsVerdict (right .told .cannot e) tt)
         go outOfBranchings e = inr (10, _, right .told .stop-branchings e, inl refl)
@@ -196,9 +196,9 @@ module _ (bytes : List ℕ) (o : Order) (opens allowance : ℕ) (t : Tables) (pa
   found-small = within-lt 64 (found .setting) (within-trans (found .setting) opens (firstOf 64) found-within (lt-within 64 opens small))
 
   -- the tables as it left them
-  left-tables : undecided bytes o opens allowance t .tables ≡ filled (check bytes (withSetting o opens (found .setting)) allowance (lengths t)) (zeroed t)
+  left-tables : undecided bytes o opens allowance t .tables ≡ triedOn bytes o opens allowance t (found .setting)
   unfolding triedAll
-  left-tables = ap (λ (x : Left). x .tables) (left-tried bytes o opens allowance t (no-row bytes o opens allowance t passed))
+  left-tables = ap (λ (x : Left). x .tables) (left-tried bytes o opens allowance t (no-row bytes o opens allowance t passed)) ∙ after-all bytes o opens allowance t
 
   pub last-wrote : LastWrote bytes o opens allowance t found (undecided bytes o opens allowance t .tables)
   last-wrote =
@@ -207,7 +207,7 @@ module _ (bytes : List ℕ) (o : Order) (opens allowance : ℕ) (t : Tables) (pa
       record {
         asked = asked s found-within;
         asked-is = refl;
-        holds = subst⁻¹ (Holds (r s found-within) t) left-tables (holds bytes (asked s found-within) allowance t (r s found-within) ran-it);
+        holds = subst⁻¹ (WordsThenZeros (r s found-within) t) left-tables (holds bytes (asked s found-within) allowance t (r s found-within) ran-it);
         right = right s found-within;
         spent = ran-spent bytes (asked s found-within) allowance (lengths t) (r s found-within) ran-it;
         uncovered =
@@ -267,18 +267,21 @@ module _ (bytes : List ℕ) (o : Order) (opens allowance : ℕ) (t : Tables) (pa
   stops-at : found .verdict ≡ Stopped → stops ≡ true
   stops-at e = stops-verdict stops every any e
 
-  pub bought : (r : ℕ → Outcome) → ((s : ℕ) → Within s opens → Settled bytes (withSetting o opens s) (r s)) → Bought opens allowance (length (t .pos)) r found
-  bought r settled =
+  pub bought : (r : ℕ → Outcome) → Bought bytes o opens allowance (length (t .pos)) r found
+  bought r =
       record {
-        enough = λ h e. both-ways stops (stops-at e) (enough-goes (found .setting) found-within (r (found .setting)) (settled _ found-within) (h _ found-within));
+        enough =
+            λ h e.
+            let own = h (found .setting) found-within in
+            both-ways stops (stops-at e) (enough-goes (found .setting) found-within (r (found .setting)) (own .0) (own .1));
         short =
-            λ before after s at h n.
+            λ before after s at h settled n.
             let within : (u : ℕ) → List·Memᴰ u (before ++ (s ∷ after)) → Within u opens = λ u m. listed u .0 (subst⁻¹ (λ (l : List ℕ). List·Memᴰ u l) at m) in
             let in-s : Within s opens = within s (Memᴰ·append-right before (List·Memᴰ·head refl)) in
             let first : (u : ℕ) → List·Memᴰ u before → isStop (f u) ≡ false =
-            λ u m. let w = within u (Memᴰ·append-left (s ∷ after) m) in enough-goes u w (r u) (settled u w) (h u m)
+            λ u m. enough-goes u (within u (Memᴰ·append-left (s ∷ after) m)) (r u) (h u m .0) (h u m .1)
             in
-            let stop = short-stops s in-s (r s) (settled s in-s) n in
+            let stop = short-stops s in-s (r s) settled n in
             let same : found .setting ≡ s = ap (lastTried f 0) at ∙ first-stop f 0 s before after first stop in
             (stopped (ap (λ (u : ℕ). isStop (f u)) same ∙ stop), same);
       }

@@ -16,8 +16,8 @@ use Rattle.words.proofs.Unions.{meets-or}
 use Rattle.order.specs.Order.{Order}
 use Rattle.book.specs.Bytes.{varsIn}
 use Rattle.book.specs.Refusals.{firstRow, above, admitRows}
-use Rattle.book.specs.Conditions.{Condition, condition, First, NoRow, Decides, HasAbove, InBoth, admitConditions}
-use Rattle.book.proofs.Refusals.{decides-append, first-iff, none-iff}
+use Rattle.book.specs.Conditions.{condition, First, NoRow, Decides, HasAbove, InBoth, admitConditions}
+use Rattle.book.proofs.Refusals.{decides-append, first-iff, none-iff, first-split, first-front}
 use Rattle.book.proofs.Conditions.{has-above, in-both, rows-decide}
 use Rattle.contract.specs.Check.{Lengths, tableRows}
 use Rattle.contract.specs.Filled.{Tables, lengths}
@@ -25,7 +25,7 @@ use Rattle.contract.specs.Demands.{Permitted}
 use Rattle.contract.proofs.Checking.{tables-decide, numbered}
 use Rattle.undecided.specs.Settings.{settings}
 use Rattle.undecided.specs.Undecided.{maxOpen, openRows, undecidedRows, answerTo, triedTo, lastSetting, triedAll, leftBy, undecided}
-use Rattle.undecided.specs.Demands.{openConditions, undecidedConditions, Judged, Refusals, TriedIs}
+use Rattle.undecided.specs.Demands.{openConditions, undecidedConditions, RefusedOrTried, Refusals, TriedIs}
 use Rattle.undecided.specs.declared.Tried.{Tried}
 use Rattle.undecided.specs.declared.Reply.the-variants.{Refused, Tried as tried}
 
@@ -48,7 +48,7 @@ unfolding openRows
 open-decides n o opens = (refl, nineteen n opens, (refl, twenty opens (o .wanted) (o .unwanted), tt))
 
 -- every row decides its condition
-pub rows-of : (bytes : List ℕ) (o : Order) (opens : ℕ) (l : Lengths) → Decides (undecidedRows bytes o opens l) (undecidedConditions bytes o opens l)
+rows-of : (bytes : List ℕ) (o : Order) (opens : ℕ) (l : Lengths) → Decides (undecidedRows bytes o opens l) (undecidedConditions bytes o opens l)
 rows-of bytes o opens l =
     decides-append (admitRows bytes o ++ openRows (varsIn bytes) o opens) (tableRows l)
     (admitConditions bytes o ++ openConditions (varsIn bytes) o opens)
@@ -72,17 +72,17 @@ module _ (bytes : List ℕ) (o : Order) (opens allowance : ℕ) (t : Tables) whe
   abbrev pub outcomeOf : Tried
   outcomeOf = triedTo (answerTo bytes o opens allowance (lengths t)) (settings opens) (lastSetting bytes o opens allowance (lengths t))
 
-  pub reply-tried : firstRow (undecidedRows bytes o opens (lengths t)) ≡ none → undecided bytes o opens allowance t .reply ≡ tried outcomeOf
+  reply-tried : firstRow (undecidedRows bytes o opens (lengths t)) ≡ none → undecided bytes o opens allowance t .reply ≡ tried outcomeOf
   unfolding triedAll
   reply-tried e = cc (left-tried e)
 
-  pub judged : Judged bytes o opens allowance t
+  pub judged : RefusedOrTried bytes o opens allowance t
   judged = go (firstRow (undecidedRows bytes o opens (lengths t))) refl
     where
       decided : Decides (undecidedRows bytes o opens (lengths t)) (undecidedConditions bytes o opens (lengths t))
       decided = rows-of bytes o opens (lengths t)
 
-      go : (x : Option ℕ) → firstRow (undecidedRows bytes o opens (lengths t)) ≡ x → Judged bytes o opens allowance t
+      go : (x : Option ℕ) → firstRow (undecidedRows bytes o opens (lengths t)) ≡ x → RefusedOrTried bytes o opens allowance t
       go (some j) e =
           let left = left-refused j e in
           let first : (k : ℕ) → (firstRow (undecidedRows bytes o opens (lengths t)) ≡ some k) ↔ First (undecidedConditions bytes o opens (lengths t)) k =
@@ -118,18 +118,6 @@ pub refusals : Refusals
 refusals = judged
 
 -- ---- the numbers of refusals
-
--- the first condition of two lists is in one of them
-first-split : (cs ds : List Condition) (k : ℕ) → First (cs ++ ds) k → First cs k ⊎ First ds k
-first-split [] ds k f = inr f
-first-split (a ∷ cs) ds k (inl here) = inl (inl here)
-first-split (a ∷ cs) ds k (inr later) = ⊎-elim (λ f. inl (inr (later .0, f))) (λ f. inr f) (first-split cs ds k (later .1))
-
--- the first condition of a list is the first of a longer one
-first-front : (cs ds : List Condition) (k : ℕ) → First cs k → First (cs ++ ds) k
-first-front [] ds k f = absurd f
-first-front (a ∷ cs) ds k (inl here) = inl here
-first-front (a ∷ cs) ds k (inr later) = inr (later .0, first-front cs ds k (later .1))
 
 pub refused-number : (bytes : List ℕ) (o : Order) (opens : ℕ) (l : Lengths) (k : ℕ) → First (undecidedConditions bytes o opens l) k →
     (((1 ≤ k) × (k ≤ 9)) ⊎ (k ≡ 12)) ⊎ ((k ≡ 19) ⊎ (k ≡ 20))

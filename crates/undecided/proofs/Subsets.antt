@@ -31,6 +31,16 @@ pub subsets-even : (k w : ℕ) → odd w ≡ false → subsets (suc k) w ≡ wit
 unfolding subsets
 subsets-even k w e = rw (e, subsets)
 
+-- there is one at least
+pub some-subset : (k w : ℕ) → (s : ℕ) × (rest : List ℕ) × (subsets k w ≡ s ∷ rest)
+unfolding subsets
+some-subset zero w = (0, [], refl)
+some-subset (suc k) w = go (some-subset k (w / 2)) (odd w) refl
+  where
+    go : (s : ℕ) × (rest : List ℕ) × (subsets k (w / 2) ≡ s ∷ rest) → (p : Bool) → odd w ≡ p → (s : ℕ) × (rest : List ℕ) × (subsets (suc k) w ≡ s ∷ rest)
+    go h true o = (h .0 * 2, (h .0 * 2 + 1) ∷ withBoth (h .1), subsets-odd k w o ∙ ap withBoth (h .2))
+    go h false o = (h .0 * 2, withZero (h .1), subsets-even k w o ∙ ap withZero (h .2))
+
 -- the half of a word has one digit less
 pub half-lt : (k w : ℕ) → w < 2 ^ suc k → w / 2 < 2 ^ k
 half-lt k w h = shr-lt k 1 (subst (λ (d : ℕ). w < 2 ^ d) (sym (add-one k)) h)

@@ -4,7 +4,7 @@ use mathlib.Core.List.{List}
 use Prim.Native.Nat.{ℕ, _^_, _<_}
 use Rattle.order.specs.Order.{Order}
 use Rattle.answer.specs.Packed.{packed, Packable}
-use Rattle.answer.specs.declared.Answer.the-variants.{Refused as Unread}
+use Rattle.answer.specs.declared.Answer.the-variants.{Refused as CheckRefused}
 use Rattle.contract.specs.Filled.{Tables}
 use Rattle.undecided.specs.Undecided.{Left, undecided, Replies}
 use Rattle.undecided.specs.Told.{verdictNumber, wordIn, verdictIn, settingIn, Told}
@@ -22,10 +22,10 @@ module _ (bytes : List ℕ) (o : Order) (opens allowance : ℕ) (before : Tables
   left-after = ap (λ (l : Left). l .tables) (replies .left)
 
   module _ (k : ℕ) (e : r ≡ Refused k) where
-    pub word-refused : Packable (Unread k)
+    pub word-refused : Packable (CheckRefused k)
     word-refused = refused-fits bytes o opens allowance before k (given e)
 
-    pub told-refused : (v s w : ℕ) → w ≡ packed (Unread k) → Told bytes o opens allowance v s before w v s after
+    pub told-refused : (v s w : ℕ) → w ≡ packed (CheckRefused k) → Told bytes o opens allowance v s before w v s after
     told-refused v s w is =
         record {
           word = is ∙ sym (ap wordIn (given e));

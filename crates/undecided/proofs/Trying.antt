@@ -4,7 +4,7 @@ use mathlib.Core.Bool.{Bool, true, false, _&&_, _||_, or-true}
 use mathlib.Core.List.{List, [], _∷_, _++_, List·Memᴰ, List·Memᴰ·head, List·Memᴰ·tail, List·Memᴰ·not-nil, List·Memᴰ·cases-cons}
 use mathlib.Core.Logic.{_⊎_, ⊎-elim}
 use Prim.Native.Nat.{ℕ}
-use Rattle.words.proofs.Truth.{both-ways, clash, and-left, and-right, and-both, or-either, when-true, when-false}
+use Rattle.words.proofs.Truth.{both-ways, clash, and-left, and-right, and-both, or-either}
 use Rattle.answer.specs.declared.Answer.{Answer}
 use Rattle.undecided.specs.Undecided.{isCan, isStop, lastTried, allCan, someCan, verdictBy}
 use Rattle.undecided.specs.declared.Verdict.the-variants.{Always, Sometimes, Never, Stopped}
@@ -12,13 +12,13 @@ use Rattle.undecided.specs.declared.Verdict.the-variants.{Always, Someti
 module _ (f : ℕ → Answer) where
   -- ---- the last one tried
 
-  -- one that stops is the last
-  pub last-stops : (x s : ℕ) (ss : List ℕ) → isStop (f s) ≡ true → lastTried f x (s ∷ ss) ≡ s
-  last-stops x s ss e = when-true (isStop (f s)) s (lastTried f s ss) e
-
-  -- and after one that does not, those after it are tried
+  -- after one that does not stop, those after it are tried
   pub last-goes : (x s : ℕ) (ss : List ℕ) → isStop (f s) ≡ false → lastTried f x (s ∷ ss) ≡ lastTried f s ss
-  last-goes x s ss e = when-false (isStop (f s)) s (lastTried f s ss) e
+  last-goes x s ss e = rw (e, lastTried)
+
+  -- and one that stops is the last
+  pub last-stops : (x s : ℕ) (ss : List ℕ) → isStop (f s) ≡ true → lastTried f x (s ∷ ss) ≡ s
+  last-stops x s ss e = rw (e, lastTried)
 
   -- where it stands in the list
   pub record Place (ss : List ℕ) (s : ℕ) : Type 0 where

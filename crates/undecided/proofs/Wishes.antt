@@ -8,6 +8,7 @@ use Prim.Native.Nat.{ℕ, _^_, _≤_, _<_}
 use native.Mathlib.Nat.{le-trans}
 use native.Mathlib.Omega.{arith}
 use borrow.Author.Tests.{lt-ltb}
+use lib.Bits.{bitOr, or-zero-r, and-zero-r}
 use lib.Dec.{ltb}
 use lib.Pow.{pow-mono}
 use Rattle.words.specs.Words.{has, minus, firstOf, Within}
@@ -18,11 +19,13 @@ use Rattle.order.specs.Order.{Order}
 use Rattle.order.specs.Demands.{Keeps as KeepsOrder}
 use Rattle.order.proofs.Demands as order
 use Rattle.book.specs.Bytes.{varsIn}
-use Rattle.book.specs.Conditions.{Condition, condition, NoRow, NamesAbove, HasAbove, InBoth, bookConditions, orderConditions, admitConditions}
+use Rattle.book.specs.Conditions.{condition, NoRow, NamesAbove, HasAbove, InBoth, bookConditions, orderConditions, admitConditions}
+use Rattle.book.proofs.Refusals.{no-rows, no-first, no-second}
 use Rattle.contract.specs.Check.{Lengths}
 use Rattle.contract.specs.Demands.{Permitted, checkConditions}
+use Rattle.undecided.specs.Settings.{subsets}
 use Rattle.undecided.specs.Undecided.{withSetting}
-use Rattle.undecided.specs.Demands.{openConditions, undecidedConditions, Wishes, AsWishes, Keeps, Keeping}
+use Rattle.undecided.specs.Demands.{openConditions, undecidedConditions, Wishes, AsWishes, NoneOpen, Keeps, Keeping}
 
 pub as-wishes : AsWishes
 unfolding withSetting
@@ -41,6 +44,15 @@ as-wishes o opens s =
       standard =
           λ k. (λ h. (minus-within (o .standard) opens k h, minus-out (o .standard) opens k h), λ h. in-minus (o .standard) opens k (h .0) (h .1));
     }
+
+-- with nothing open it is the order
+pub none-open : NoneOpen
+unfolding withSetting minus subsets
+none-open o =
+    let wanted : bitOr (o .wanted) 0 ≡ o .wanted = or-zero-r (o .wanted) in
+    let unwanted : bitOr (o .unwanted) (minus 0 0) ≡ o .unwanted = or-zero-r (o .unwanted) in
+    let standard : minus (o .standard) 0 ≡ o .standard = omega (arith, and-zero-r (o .standard)) in
+    record { one-setting = refl; as-it-is = λ i. record { wanted = wanted i; unwanted = unwanted i; standard = standard i } }
 
 -- ---- keeping it
 
@@ -87,19 +99,6 @@ keeping x o opens s within =
     (λ h. to-setting x o opens s within (same .0 h), λ h. same .1 (to-order x o opens s within h))
 
 -- ---- nothing refuses it
-
--- no condition of two lists holds
-no-rows : (cs ds : List Condition) → NoRow cs → NoRow ds → NoRow (cs ++ ds)
-no-rows [] ds h g = g
-no-rows (a ∷ cs) ds h g = (h .0, no-rows cs ds (h .1) g)
-
-no-first : (cs ds : List Condition) → NoRow (cs ++ ds) → NoRow cs
-no-first [] ds h = tt
-no-first (a ∷ cs) ds h = (h .0, no-first cs ds (h .1))
-
-no-second : (cs ds : List Condition) → NoRow (cs ++ ds) → NoRow ds
-no-second [] ds h = h
-no-second (a ∷ cs) ds h = no-second cs ds (h .1)
 
 module _ (bytes : List ℕ) (o : Order) (opens : ℕ) (l : Lengths) (h : NoRow (undecidedConditions bytes o opens l)) where
   abbrev n : ℕ

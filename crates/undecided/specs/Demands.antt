@@ -23,7 +23,7 @@ use Rattle.answer.specs.Answer.{tallyOf}
 use Rattle.answer.specs.Packed.{unpacked}
 use Rattle.answer.specs.declared.Tally.{Tally}
 use Rattle.answer.specs.declared.Answer.{Answer}
-use Rattle.answer.specs.declared.Answer.the-variants.{Can, Cannot, Refused as Unread, Stopped as Short}
+use Rattle.answer.specs.declared.Answer.the-variants.{Can, Cannot, Refused as CheckRefused, Stopped as CheckStopped}
 use Rattle.contract.specs.Check.{Lengths, outcome}
 use Rattle.contract.specs.Filled.{Tables, lent, lengths}
 use Rattle.contract.specs.Demands.{answer, Permitted, checkConditions, tablesOf, firstPlaces, RightOutcome, Uncovered, Settled, IsVerdict}
@@ -47,18 +47,18 @@ abbrev pub undecidedConditions : List ℕ → Order → ℕ → Lengths → List
 undecidedConditions bytes o opens l = (admitConditions bytes o ++ openConditions (varsIn bytes) o opens) ++ (condition 9 (Permitted l → ⊥) ∷ [])
 
 -- refused by the first condition that holds, and then nothing is changed; tried where none holds
-pub record Judged (bytes : List ℕ) (o : Order) (opens allowance : ℕ) (t : Tables) : Type 0 where
+pub record RefusedOrTried (bytes : List ℕ) (o : Order) (opens allowance : ℕ) (t : Tables) : Type 0 where
   pub refused : (k : ℕ) → (undecided bytes o opens allowance t .reply ≡ Refused k) ↔ First (undecidedConditions bytes o opens (lengths t)) k
   pub untouched : (k : ℕ) → undecided bytes o opens allowance t .reply ≡ Refused k → undecided bytes o opens allowance t .tables ≡ t
   pub tried : NoRow (undecidedConditions bytes o opens (lengths t)) ↔ ((x : Tried) × (undecided bytes o opens allowance t .reply ≡ tried x))
 
 abbrev pub Refusals : Type 0
-Refusals = (bytes : List ℕ) (o : Order) (opens allowance : ℕ) (t : Tables) → Judged bytes o opens allowance t
+Refusals = (bytes : List ℕ) (o : Order) (opens allowance : ℕ) (t : Tables) → RefusedOrTried bytes o opens allowance t
 
--- demand 1: a numbered refusal, or a last setting with a verdict or a named stop
+-- demand 1: a numbered refusal, or a last setting with "can", "cannot" or a named stop
 abbrev pub NamedReply : Reply → Type 0
 NamedReply (Refused k) = (((1 ≤ k) × (k ≤ 9)) ⊎ (k ≡ 12)) ⊎ ((k ≡ 19) ⊎ (k ≡ 20))
-NamedReply (tried x) = IsVerdict (x .last) ⊎ ((k : ℕ) × (c : Tally) × (x .last ≡ Short k c) × ((k ≡ 10) ⊎ (k ≡ 11)))
+NamedReply (tried x) = IsVerdict (x .last) ⊎ ((k : ℕ) × (c : Tally) × (x .last ≡ CheckStopped k c) × ((k ≡ 10) ⊎ (k ≡ 11)))
 
 abbrev pub Answers : Type 0
 Answers = (bytes : List ℕ) (o : Order) (opens allowance : ℕ) (t : Tables) → NamedReply (undecided bytes o opens allowance t .reply)
@@ -93,6 +93,14 @@ pub record Wishes (o : Order) (opens s : ℕ) : Type 0 where
 abbrev pub AsWishes : Type 0
 AsWishes = (o : Order) (opens s : ℕ) → Wishes o opens s
 
+-- with nothing open the one setting is 0, and the order is tried as it is
+pub record NothingOpen (o : Order) : Type 0 where
+  pub one-setting : settings 0 ≡ 0 ∷ []
+  pub as-it-is : withSetting o 0 0 ≡ o
+
+abbrev pub NoneOpen : Type 0
+NoneOpen = (o : Order) → NothingOpen o
+
 -- ---- what a setting means
 
 -- the choice x keeps the order, and its open options are those of the setting s. A standard option that is open is not taken as wanted
@@ -117,13 +125,13 @@ BuildableWith bytes o opens s = (x : ℕ) × Builds bytes o opens s x
 
 -- ---- what is tried
 
--- x was tried
+-- the reply is what was tried, x
 abbrev pub TriedIs : List ℕ → Order → ℕ → ℕ → Tables → Tried → Type 0
 TriedIs bytes o opens allowance t x = undecided bytes o opens allowance t .reply ≡ tried x
 
--- the answer is stop 10 or 11
+-- the answer is a stop
 abbrev pub Stops : Answer → Type 0
-Stops a = (k : ℕ) × (c : Tally) × (a ≡ Short k c)
+Stops a = (k : ℕ) × (c : Tally) × (a ≡ CheckStopped k c)
 
 -- the answer to a setting: that of a single check of the order with it, with the whole allowance
 abbrev pub single : List ℕ → Order → ℕ → ℕ → Lengths → ℕ → Answer
@@ -134,14 +142,14 @@ pub record InTurn (bytes : List ℕ) (o : Order) (opens allowance : ℕ) (l : Le
   pub none-refused : (s : ℕ) → Within s opens → NoRow (checkConditions bytes (withSetting o opens s) l)
   -- the answer of the last setting tried, with its own counts, is handed over
   pub last-own : x .last ≡ single bytes o opens allowance l (x .setting)
-  -- those before it were tried too, and none of them stops
+  -- it stands in the list of settings, and none before it stops
   pub earlier : List ℕ
   pub later : List ℕ
   pub listed : settings opens ≡ earlier ++ (x .setting ∷ later)
   pub none-stopped : (s : ℕ) → List·Memᴰ s earlier → Stops (single bytes o opens allowance l s) → ⊥
-  -- it is a stop exactly if it stops
+  -- it is a stop exactly if that one stops
   pub stop : (x .verdict ≡ Stopped) ↔ Stops (x .last)
-  -- and if it does not, all settings were tried: it is the last of them, the open word, and none stops
+  -- and if it does not, all settings were tried: it is the last of them, the open word
   pub all-tried : (x .verdict ≡ Stopped → ⊥) → (x .setting ≡ opens) × (later ≡ [])
 
 abbrev pub Trying : Type 0
@@ -169,7 +177,7 @@ abbrev pub ZeroFrom : ℕ → List ℕ → Type 0
 ZeroFrom count t = (i : ℕ) → count ≤ i → getD t i 0 ≡ 0
 
 -- the tables hold what the outcome r has, and zeros after it
-pub record Holds (r : Outcome) (before after : Tables) : Type 0 where
+pub record WordsThenZeros (r : Outcome) (before after : Tables) : Type 0 where
   pub first : firstPlaces (tallyOf r) after ≡ tablesOf r
   pub pos : ZeroFrom (length (r .derived)) (after .pos)
   pub neg : ZeroFrom (length (r .derived)) (after .neg)
@@ -183,7 +191,7 @@ pub record Holds (r : Outcome) (before after : Tables) : Type 0 where
 pub record LastWrote (bytes : List ℕ) (o : Order) (opens allowance : ℕ) (t : Tables) (x : Tried) (after : Tables) : Type 0 where
   pub asked : Order
   pub asked-is : asked ≡ withSetting o opens (x .setting)
-  pub holds : Holds (outcome bytes asked allowance (lengths t)) t after
+  pub holds : WordsThenZeros (outcome bytes asked allowance (lengths t)) t after
   pub right : RightOutcome bytes asked allowance (lengths t) (varsIn bytes) (rulesIn bytes) (outcome bytes asked allowance (lengths t))
   pub spent : Spent allowance (length (t .pos)) (outcome bytes asked allowance (lengths t))
   pub uncovered : Uncovered bytes asked (outcome bytes asked allowance (lengths t)) after
@@ -201,19 +209,21 @@ NoPart =
 
 -- ---- what an allowance buys
 
--- every setting has an outcome r s that is a verdict
-pub record Bought (opens allowance places : ℕ) (r : ℕ → Outcome) (x : Tried) : Type 0 where
-  -- enough for each of them, and it is no stop
-  pub enough : ((s : ℕ) → Within s opens → Enough (r s) allowance places) → x .verdict ≡ Stopped → ⊥
-  -- and else it stops at the first for which it is not enough
+-- what the allowance and the places buy, where r s is the outcome with which the order with setting s is settled
+pub record Bought (bytes : List ℕ) (o : Order) (opens allowance places : ℕ) (r : ℕ → Outcome) (x : Tried) : Type 0 where
+  -- enough for every setting: it is no stop
+  pub enough :
+      ((s : ℕ) → Within s opens → Settled bytes (withSetting o opens s) (r s) × Enough (r s) allowance places) → x .verdict ≡ Stopped → ⊥
+  -- not enough for a setting, and enough for those before it: it stops there, whatever those after it come to
   pub short :
       (before after : List ℕ) (s : ℕ) → settings opens ≡ before ++ (s ∷ after) →
-      ((u : ℕ) → List·Memᴰ u before → Enough (r u) allowance places) → (Enough (r s) allowance places → ⊥) → (x .verdict ≡ Stopped) × (x .setting ≡ s)
+      ((u : ℕ) → List·Memᴰ u before → Settled bytes (withSetting o opens u) (r u) × Enough (r u) allowance places) →
+      Settled bytes (withSetting o opens s) (r s) → (Enough (r s) allowance places → ⊥) → (x .verdict ≡ Stopped) × (x .setting ≡ s)
 
 abbrev pub Buying : Type 0
 Buying =
     (bytes : List ℕ) (o : Order) (opens allowance : ℕ) (t : Tables) (x : Tried) → TriedIs bytes o opens allowance t x →
-    (r : ℕ → Outcome) → ((s : ℕ) → Within s opens → Settled bytes (withSetting o opens s) (r s)) → Bought opens allowance (length (t .pos)) r x
+    (r : ℕ → Outcome) → Bought bytes o opens allowance (length (t .pos)) r x
 
 -- 2^n - 1 of both is always enough
 abbrev pub AlwaysEnough : Type 0
@@ -228,9 +238,9 @@ pub record Takes (bytes : List ℕ) (o : Order) (opens allowance v s : ℕ) (bef
   -- a refusal by its number, with nothing changed
   pub refused :
       (k : ℕ) → undecided bytes o opens allowance before .reply ≡ Refused k →
-      (unpacked w ≡ Unread k) × (v′ ≡ v) × (s′ ≡ s) × (after ≡ before)
-  -- or the last setting tried, with its answer
-  pub answered : (x : Tried) → TriedIs bytes o opens allowance before x → (unpacked w ≡ x .last) × (s′ ≡ x .setting) × (s′ < 2 ^ 64)
+      (unpacked w ≡ CheckRefused k) × (v′ ≡ v) × (s′ ≡ s) × (after ≡ before)
+  -- or the last setting tried, with its answer and what it left
+  pub answered : (x : Tried) → TriedIs bytes o opens allowance before x → (unpacked w ≡ x .last) × (s′ ≡ x .setting) × (s′ < 2 ^ 64) × (after ≡ undecided bytes o opens allowance before .tables)
   -- and the verdict: 0 always, 1 sometimes, 2 never, 3 stopped
   pub always : (x : Tried) → TriedIs bytes o opens allowance before x → x .verdict ≡ Always → v′ ≡ 0
   pub sometimes : (x : Tried) → TriedIs bytes o opens allowance before x → x .verdict ≡ Sometimes → v′ ≡ 1
@@ -270,7 +280,7 @@ pub record Examples : Type 0 where
   pub stopped :
       undecided threeRules (order 0 0 4) 5 3 (lent (replicate 2 9) (replicate 2 9) (replicate 64 9) (replicate 65 9) (replicate 66 9)) ≡
       record {
-        reply = tried (record { verdict = Stopped; setting = 4; last = Short 11 (record { branchings = 3; derived = 2; records = 1 }) });
+        reply = tried (record { verdict = Stopped; setting = 4; last = CheckStopped 11 (record { branchings = 3; derived = 2; records = 1 }) });
         tables = lent (2 ∷ 0 ∷ []) (0 ∷ 4 ∷ []) (padded 64 (0 ∷ [])) (padded 65 (0 ∷ [])) (padded 66 (3 ∷ []));
       }
   -- only option 3 is open, and one branching is enough
@@ -287,8 +297,22 @@ pub record Examples : Type 0 where
         reply = tried (record { verdict = Never; setting = 1; last = Cannot (record { branchings = 3; derived = 3; records = 1 }) });
         tables = lent (padded 3 []) (padded 3 (4 ∷ 1 ∷ 0 ∷ [])) (padded 64 (0 ∷ [])) (padded 65 (0 ∷ [])) (padded 66 (7 ∷ []));
       }
+  -- option 1 is wanted, 2 unwanted, 3 and 4 standard, and 4 is open. Left out, it breaks "4 or not 3", since 3 is taken as wanted
+  pub beside :
+      undecided (encode 4 (clause 8 4 ∷ [])) (order 1 2 12) 8 2 lentTables ≡
+      record {
+        reply = tried (record { verdict = Sometimes; setting = 8; last = Can (record { branchings = 0; derived = 0; records = 4 }) });
+        tables = lent (padded 3 []) (padded 3 []) (padded 64 []) (padded 65 []) (padded 66 (1 ∷ 3 ∷ 11 ∷ 15 ∷ []));
+      }
   -- an open option that is wanted: 20, and nothing is cleared
   pub refused : undecided threeRules (order 1 0 0) 3 3 lentTables ≡ record { reply = Refused 20; tables = lentTables }
+  -- of the refusals that hold, the first. 11 open options, and one above n; 10 of which one is wanted, and one unwanted; 10 with no tables; a standard option above n
+  pub eleven : undecided (encode 64 []) (order 1 0 0) 2047 0 (lent [] [] [] [] []) .reply ≡ Refused 19
+  pub above-n : undecided (encode 3 []) (order 1 0 0) 9 0 (lent [] [] [] [] []) .reply ≡ Refused 19
+  pub ten : undecided (encode 64 []) (order 1 0 0) 1023 0 (lent [] [] [] [] []) .reply ≡ Refused 20
+  pub unwanted-too : undecided (encode 64 []) (order 0 1 0) 1023 0 (lent [] [] [] [] []) .reply ≡ Refused 20
+  pub then-nine : undecided (encode 64 []) (order 0 0 0) 1023 0 (lent [] [] [] [] []) .reply ≡ Refused 9
+  pub twelve-first : undecided (encode 3 []) (order 0 0 8) 8 0 (lent [] [] [] [] []) .reply ≡ Refused 12
 
 -- ---- all of them
 
@@ -299,6 +323,7 @@ pub record Demands : Type 0 where
   pub all-settings : AllSettings
   pub visiting : Visiting
   pub as-wishes : AsWishes
+  pub none-open : NoneOpen
   pub keeping : Keeping
   pub trying : Trying
   pub verdicts : Verdicts

@@ -4,7 +4,7 @@ use mathlib.Core.List.{List}
 use Prim.Native.Nat.{ℕ}
 use Rattle.order.specs.Order.{Order}
 use Rattle.answer.specs.Packed.{packed}
-use Rattle.answer.specs.declared.Answer.the-variants.{Refused as Unread}
+use Rattle.answer.specs.declared.Answer.the-variants.{Refused as CheckRefused}
 use Rattle.contract.specs.Filled.{Tables}
 use Rattle.undecided.specs.Undecided.{undecided}
 use Rattle.undecided.specs.declared.Verdict.{Verdict}
@@ -20,7 +20,7 @@ verdictNumber Stopped = 3
 
 -- the word: a refusal's, or that of the last setting's answer
 abbrev pub wordIn : Reply → ℕ
-wordIn (Refused k) = packed (Unread k)
+wordIn (Refused k) = packed (CheckRefused k)
 wordIn (tried x) = packed (x .last)
 
 -- the caller's places, which a refusal leaves as they were

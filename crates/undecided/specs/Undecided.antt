@@ -13,7 +13,7 @@ use Rattle.order.specs.Order.{Order}
 use Rattle.book.specs.Bytes.{varsIn}
 use Rattle.book.specs.Refusals.{Row, row, firstRow, above, admitRows}
 use Rattle.answer.specs.declared.Answer.{Answer}
-use Rattle.answer.specs.declared.Answer.the-variants.{Can, Cannot, Refused as Unread, Stopped as Short}
+use Rattle.answer.specs.declared.Answer.the-variants.{Can, Cannot, Refused as CheckRefused, Stopped as CheckStopped}
 use Rattle.contract.specs.Check.{Lengths, tableRows, check}
 use Rattle.contract.specs.Filled.{Tables, lengths, answerOf, filled}
 use Rattle.undecided.specs.Settings.{settings}
@@ -60,16 +60,16 @@ zeroed t = record { pos = zeros (t .pos); neg = zeros (t .neg); decided = zeros 
 abbrev pub isCan : Answer → Bool
 isCan (Can t) = true
 isCan (Cannot t) = false
-isCan (Unread k) = false
-isCan (Short k t) = false
+isCan (CheckRefused k) = false
+isCan (CheckStopped k t) = false
 
 abbrev pub isStop : Answer → Bool
 isStop (Can t) = false
 isStop (Cannot t) = false
-isStop (Unread k) = false
-isStop (Short k t) = true
+isStop (CheckRefused k) = false
+isStop (CheckStopped k t) = true
 
--- the last setting tried of these, each with its answer: the first that stops, and else the last of all; x is the one tried before them
+-- the last setting tried of these, where f gives each its answer: the first that stops, and else the last of all; x is the one tried before them
 abbrev pub lastTried : (ℕ → Answer) → ℕ → List ℕ → ℕ
 lastTried f x [] = x
 lastTried f x (s ∷ ss) = elim (isStop (f s)) [ true ↦ s | false ↦ lastTried f s ss ]
@@ -94,6 +94,19 @@ verdictBy false false false = Never
 abbrev pub triedTo : (ℕ → Answer) → List ℕ → ℕ → Tried
 triedTo f ss s = record { verdict = verdictBy (isStop (f s)) (allCan f ss) (someCan f ss); setting = s; last = f s }
 
+-- the tables after one setting, which are set to zero before it
+abbrev pub triedOn : List ℕ → Order → ℕ → ℕ → Tables → ℕ → Tables
+triedOn bytes o opens allowance t s = filled (check bytes (withSetting o opens s) allowance (lengths t)) (zeroed t)
+
+-- the tables after these settings, one after the other, up to the first that stops
+abbrev pub tablesAfter : List ℕ → Order → ℕ → ℕ → Tables → List ℕ → Tables
+tablesAfter bytes o opens allowance t [] = t
+tablesAfter bytes o opens allowance t (s ∷ ss) =
+    elim (isStop (answerTo bytes o opens allowance (lengths t) s)) [
+      | true ↦ triedOn bytes o opens allowance t s
+      | false ↦ tablesAfter bytes o opens allowance (triedOn bytes o opens allowance t s) ss
+    ]
+
 -- what is left: the reply, and the tables
 pub record Left : Type 0 where
   pub reply : Reply
@@ -103,13 +116,12 @@ pub record Left : Type 0 where
 abbrev pub lastSetting : List ℕ → Order → ℕ → ℕ → Lengths → ℕ
 lastSetting bytes o opens allowance l = lastTried (answerTo bytes o opens allowance l) 0 (settings opens)
 
--- all settings tried, and the tables as the last one left them
+-- all settings tried, up to the first that stops. No check changes a table's length
 unfoldable pub triedAll : List ℕ → Order → ℕ → ℕ → Tables → Left
 triedAll bytes o opens allowance t =
-    let s : ℕ = lastSetting bytes o opens allowance (lengths t) in
     record {
-      reply = tried (triedTo (answerTo bytes o opens allowance (lengths t)) (settings opens) s);
-      tables = filled (check bytes (withSetting o opens s) allowance (lengths t)) (zeroed t);
+      reply = tried (triedTo (answerTo bytes o opens allowance (lengths t)) (settings opens) (lastSetting bytes o opens allowance (lengths t)));
+      tables = tablesAfter bytes o opens allowance t (settings opens);
     }
 
 -- refused by the row that was found, and else tried

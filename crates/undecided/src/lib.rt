@@ -1,7 +1,7 @@
 // Options that a buyer has not decided: what is answered. Crate `trying` has the code.
 use answer::Answer;
 
-// The order can be built with every setting of the open options, with some but not all, or with none; or a setting stopped.
+// The order can be built with every setting of the open options, with some but not all, or with none; or a setting stopped, and there is no verdict.
 pub enum Verdict {
     Always,
     Sometimes,
@@ -9,7 +9,7 @@ pub enum Verdict {
     Stopped,
 }
 
-// The verdict, the last setting tried, and the answer to it.
+// The verdict or that there is none, the last setting tried, and the answer to it.
 pub struct Tried {
     pub verdict: Verdict,
     pub setting: u64,

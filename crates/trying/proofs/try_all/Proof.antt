@@ -84,8 +84,8 @@ loop-less c =
 loop-again : tie.Need-loop-again Inv-loop μ-loop
 loop-again c = turn c .reached
 
-told-requires : tie.Need-told-requires Inv-loop μ-loop
-told-requires c κs = tt
+summary-requires : tie.Need-summary-requires Inv-loop μ-loop
+summary-requires c κs = tt
 
 same-length : tie.Need-same-length Inv-loop μ-loop
 same-length c = ap (λ (l : Lengths). l .pos) (reached (c .before .before .before) .same-lengths)
@@ -109,12 +109,12 @@ returns c =
     let a = begin .args in
     let g = at .loop .g in
     let h = reached at in
-    tries-all (a .book .now) (orderOf (a .o)) (a .opens) (a .allowance) (tables begin) g _ h (c .told .result)
+    tries-all (a .book .now) (orderOf (a .o)) (a .opens) (a .allowance) (tables begin) g _ h (c .summary .result)
     (⊎-elim
     (stops-there (a .book .now) (orderOf (a .o)) (a .opens) (a .allowance) (lengths (tables begin)) g _ h)
     (ends-there (a .book .now) (orderOf (a .o)) (a .opens) (a .allowance) (lengths (tables begin)) g _ h)
     (is-over (g .last) (g .setting) (a .opens) (sym (c .before .before .goes-on .ensures) ∙ c .before .if1 .left)))
-    (c .told .ensures)
+    (c .summary .ensures)
 
 pub try-all-spec : {M : Type 1} → statement M
 try-all-spec =
@@ -128,7 +128,7 @@ try-all-spec =
     next-requires
     loop-less
     loop-again
-    told-requires
+    summary-requires
     same-length
     same-length-2
     same-length-3

@@ -22,15 +22,23 @@ enum-told c = search needs
 all-requires : tie.Need-all-requires
 all-requires c κs = search needs
 
+-- the refusals were judged, where the tables are cleared
+abbrev judged-at : tie.After-all → tie.After-refusal
+judged-at c = c .before .before .before .before .before .before .before .before
+
+-- the function's arguments, where they were judged
+abbrev start : tie.After-refusal → tie.Start
+start c = c .before .before .before .before .before .before .before
+
 try-all-requires : tie.Need-try-all-requires
-try-all-requires c κs = ready (tables (c .before .before .before .before .before .before .before .before .before .before .before .before .before .before .before .before .before .before .before .before .before .before .before .before .before .before .before .before .before .before)) _ (c .before .before .before .before .before .before .before .before .before .before .before .before .before .before .before .all .ensures)
+try-all-requires c κs = let cleared = c .before .before .before .before .before .before .before .before .before .before .before .before .before .before .before in ready (tables (start (judged-at cleared))) _ (cleared .all .ensures)
 
 returns : tie.Need-returns
 returns c =
-    let begin = c .before .before .before .before .before .before .before .before .before .before in
-    let a = begin .args in
-    let judged = c .before .before .before .refusal in
-    replies-refused (a .book .now) (orderOf (a .o)) (a .opens) (a .allowance) (tables begin) (judged .result) (judged .ensures) _ (c .before .k .given .1)
+    let judged = c .before .before .before in
+    let a = start judged .args in
+    replies-refused (a .book .now) (orderOf (a .o)) (a .opens) (a .allowance) (tables (start judged)) (judged .refusal .result) (judged .refusal .ensures) _
+    (c .before .k .given .1)
 
 same-length : tie.Need-same-length
 same-length c = search needs
@@ -49,14 +57,16 @@ same-length-5 c = search needs
 
 returns-2 : tie.Need-returns-2
 returns-2 c =
-    let begin = c .before .before .before .before .before .before .before .before .before .before .before .before .before .before .before .before .before .before .before .before .before .before .before .before .before .before .before .before .before .before .before .before .before .before .before .before .before .before .before .before .before in
-    let a = begin .args in
-    let judged = c .before .before .before .before .before .before .before .before .before .before .before .before .before .before .before .before .before .before .before .before .before .before .before .before .before .before .before .before .before .before .before .before .before .before .refusal in
-    let cleared = c .before .before .before .before .before .before .before .before .before .before .before .before .before .before .before .before .before .before .before .before .before .before .before .before .before .before .all in
-    let all = c .before .before .before .before .before .before .before .before .before .before .try-all in
-    replies-tried (a .book .now) (orderOf (a .o)) (a .opens) (a .allowance) (tables begin) (judged .result) (judged .ensures) _ (all .result) _ (c .before .before .before .before .before .before .before .before .before .before .before .before .before .before .before .before .before .before .before .before .before .before .before .before .before .before .before .before .before .before .before .before .enum-told .given .1)
-    (cleared .ensures)
-    (all .ensures)
+    let tried = c .before .before .before .before .before .before .before .before .before .before in
+    let cleared = tried .before .before .before .before .before .before .before .before .before .before .before .before .before .before .before .before in
+    let judged = judged-at cleared in
+    let a = start judged .args in
+    replies-tried (a .book .now) (orderOf (a .o)) (a .opens) (a .allowance) (tables (start judged)) (judged .refusal .result) (judged .refusal .ensures) _
+    (tried .try-all .result)
+    _
+    (cleared .before .before .before .before .before .before .enum-told .given .1)
+    (cleared .all .ensures)
+    (tried .try-all .ensures)
 
 pub undecided-spec : {M : Type 1} → statement M
 undecided-spec =
