@@ -123,21 +123,21 @@ module _ (bytes : List ℕ) (o : Order) (opens allowance : ℕ) (l : Lengths) wh
       pub reached : Reached g′ t′
       pub larger : g .setting < g′ .setting
 
-    pub reached-next : (g′ : Going) (t′ : Tables) → isStop (g .last) ≡ false → g .setting ≢ opens →
-        Went bytes o opens allowance (nextSetting opens (g .setting)) (g .all) (g .any) t g′ t′ → Next g′ t′
+    pub reached-next : (u : ℕ) (clean : Tables) (g′ : Going) (t′ : Tables) → isStop (g .last) ≡ false → g .setting ≢ opens → u ≡ nextSetting opens (g .setting) →
+        clean ≡ zeroed t → Went bytes o opens allowance u (g .all) (g .any) clean g′ t′ → Next g′ t′
     unfolding nextSetting
-    reached-next g′ t′ on other w = go (h .rest) (h .walk) (h .last) (h .every) (h .some)
+    reached-next u clean g′ t′ on other after zero w = go (h .rest) (h .walk) (h .last) (h .every) (h .some)
       where
         go : (rest : List ℕ) → Walk 64 opens (g .setting) rest → lastTried f 0 (settings opens) ≡ lastTried f 0 (g .setting ∷ rest) →
             allCan f (settings opens) ≡ (g .all && allCan f rest) → someCan f (settings opens) ≡ (g .any || someCan f rest) → Next g′ t′
         go [] walk last every some = absurd (other (walk .1))
-        go (u ∷ rest) walk last every some =
-            let is : g′ .setting ≡ u = w .setting ∙ sym (walk .2) in
-            let same : lengths t′ ≡ l = w .same-lengths ∙ h .same-lengths in
+        go (v ∷ rest) walk last every some =
+            let is : g′ .setting ≡ v = w .setting ∙ after ∙ sym (walk .2) in
+            let same : lengths t′ ≡ l = w .same-lengths ∙ ap lengths zero ∙ zeroed-lengths t ∙ h .same-lengths in
             let stands : Stands bytes o opens allowance (g′ .setting) (g′ .last) t′ =
             subst⁻¹ (λ (s : ℕ). Stands bytes o opens allowance s (g′ .last) t′) (w .setting) (w .stands)
             in
-            let answered : g′ .last ≡ f u = stands-answer (g′ .setting) (g′ .last) t′ stands same ∙ ap f is in
+            let answered : g′ .last ≡ f v = stands-answer (g′ .setting) (g′ .last) t′ stands same ∙ ap f is in
             let goes : isStop (f (g .setting)) ≡ false = sym (ap isStop (reached-answer g t h)) ∙ on in
             record {
               larger = omega (arith, walk .1, is);
@@ -145,15 +145,15 @@ module _ (bytes : List ℕ) (o : Order) (opens allowance : ℕ) (l : Lengths) wh
                   record {
                     rest = rest;
                     walk = subst⁻¹ (λ (s : ℕ). Walk 64 opens s rest) is (walk .3);
-                    last = last ∙ last-goes f 0 (g .setting) (u ∷ rest) goes ∙ ap (λ (s : ℕ). lastTried f 0 (s ∷ rest)) (sym is);
+                    last = last ∙ last-goes f 0 (g .setting) (v ∷ rest) goes ∙ ap (λ (s : ℕ). lastTried f 0 (s ∷ rest)) (sym is);
                     every =
                         every
-                        ∙ sym (and-assoc (g .all) (isCan (f u)) (allCan f rest))
+                        ∙ sym (and-assoc (g .all) (isCan (f v)) (allCan f rest))
                         ∙ ap (λ (x : Answer). (g .all && isCan x) && allCan f rest) (sym answered)
                         ∙ ap (λ (b : Bool). b && allCan f rest) (sym (w .every));
                     some =
                         some
-                        ∙ sym (or-assoc (g .any) (isCan (f u)) (someCan f rest))
+                        ∙ sym (or-assoc (g .any) (isCan (f v)) (someCan f rest))
                         ∙ ap (λ (x : Answer). (g .any || isCan x) || someCan f rest) (sym answered)
                         ∙ ap (λ (b : Bool). b || someCan f rest) (sym (w .some));
                     stands = stands;

@@ -2,13 +2,11 @@
 use mathlib.Core.Path.{_≡_}
 use mathlib.Core.Bool.{Bool, _&&_, _||_}
 use mathlib.Core.List.{List}
-use Prim.Native.Nat.{ℕ, _≤_}
-use lib.ListN.{length, replicate}
+use Prim.Native.Nat.{ℕ}
 use Rattle.order.specs.Order.{Order}
-use Rattle.answer.specs.declared.Tally.{Tally}
 use Rattle.answer.specs.declared.Answer.{Answer}
 use Rattle.contract.specs.Check.{check}
-use Rattle.contract.specs.Filled.{Tables, lengths, written, filled}
+use Rattle.contract.specs.Filled.{Tables, lengths, filled}
 use Rattle.undecided.specs.Undecided.{withSetting, answerTo, zeroed, isCan, triedAll}
 use Rattle.undecided.specs.declared.Tried.{Tried}
 use Rattle.undecided.specs.declared.Reply.the-variants.{Tried as tried}
@@ -17,25 +15,6 @@ use Rattle.trying.specs.declared.turn.Going.{Going}
 -- every place is zero
 abbrev pub Ready : Tables → Type 0
 Ready t = t ≡ zeroed t
-
--- the counts fit the tables
-pub record Counted (c : Tally) (t : Tables) : Type 0 where
-  pub pos : c .derived ≤ length (t .pos)
-  pub neg : c .derived ≤ length (t .neg)
-  pub decided : c .records ≤ length (t .decided)
-  pub trues : c .records ≤ length (t .trues)
-  pub redundant : c .records ≤ length (t .redundant)
-
--- the tables with zeros in the counted places
-abbrev pub cleared : Tally → Tables → Tables
-cleared c t =
-    record {
-      pos = written (replicate (c .derived) 0) (t .pos);
-      neg = written (replicate (c .derived) 0) (t .neg);
-      decided = written (replicate (c .records) 0) (t .decided);
-      trues = written (replicate (c .records) 0) (t .trues);
-      redundant = written (replicate (c .records) 0) (t .redundant);
-    }
 
 -- the tables hold what the check of the order with setting s wrote into zeros, and a is its answer
 pub record Stands (bytes : List ℕ) (o : Order) (opens allowance s : ℕ) (a : Answer) (t : Tables) : Type 0 where

@@ -4,12 +4,11 @@ ghost use Rattle.contract.specs.Filled.{lent};
 ghost use Rattle.undecided.specs.Undecided.{Replies};
 ghost use Rattle.trying.specs.Promises.{Ready, TriesAll};
 use order::Order;
+use settings::clear;
 use undecided::Reply;
 use undecided::Tried;
 
-mod clear;
 mod judge;
-mod setting;
 mod turn;
 
 // Tries every setting of the options in `opens`, lowest word first: the order, with the open options of the setting wanted and the other open ones unwanted. A refusal
@@ -55,7 +54,7 @@ pub fn undecided(
     }
 }
 
-// Tries the settings one after the other, on tables of zeros.
+// Tries the settings one after the other, on tables of zeros. The tables are cleared of what a setting wrote before the next one.
 fn try_all(
     book: &[u8],
     o: Order,
@@ -70,11 +69,14 @@ fn try_all(
     requires { ⌜ Ready (lent (now pos) (now neg) (now decided) (now trues) (now redundant)) ⌝ }
     ensures { λ r. ⌜ TriesAll (now (book .entry)) (orderOf o) opens allowance (lent (now (pos .entry)) (now (neg .entry)) (now (decided .entry)) (now (trues .entry)) (now (redundant .entry))) r (lent (now (pos .exit)) (now (neg .exit)) (now (decided .exit)) (now (trues .exit)) (now (redundant .exit))) ⌝ }
 {
-    let mut g = turn::first(
+    let mut g = turn::attempt(
         book,
         o,
         opens,
         allowance,
+        0,
+        true,
+        false,
         pos,
         neg,
         decided,
@@ -82,12 +84,16 @@ fn try_all(
         redundant,
     );
     while turn::goes_on(g, opens) {
-        g = turn::next(
+        let last = g.last;
+        clear::counted(answer::tally_of(last), pos, neg, decided, trues, redundant);
+        g = turn::attempt(
             book,
             o,
             opens,
             allowance,
-            g,
+            settings::after(opens, g.setting),
+            g.all,
+            g.any,
             pos,
             neg,
             decided,

@@ -1,15 +1,11 @@
-// One setting after the other: what is known after each, and the next one.
+// One setting, and what is known of the settings after it.
 ghost use mathlib.Core.Path.{_≡_};
-ghost use mathlib.Core.Bool.{true, false, not, _&&_, _||_};
-ghost use Prim.Native.Nat.{_<_};
+ghost use mathlib.Core.Bool.{not, _&&_, _||_};
 ghost use lib.Dec.{eqb};
 ghost use Rattle.order.specs.Values.{orderOf};
 ghost use Rattle.contract.specs.Filled.{lent};
-ghost use Rattle.undecided.specs.Settings.{nextSetting};
 ghost use Rattle.undecided.specs.Undecided.{isCan, isStop, verdictBy};
-ghost use Rattle.trying.specs.Promises.{Ready, Stands, Went};
-use crate::clear;
-use crate::setting;
+ghost use Rattle.trying.specs.Promises.{Ready, Went};
 use answer::Answer;
 use order::Order;
 use undecided::Tried;
@@ -23,12 +19,15 @@ pub struct Going {
     pub last: Answer,
 }
 
-// The first setting, in which no open option is fitted.
-pub fn first(
+// Tries setting s on tables of zeros, after settings of which all or some can be built.
+pub fn attempt(
     book: &[u8],
     o: Order,
     opens: u64,
     allowance: u32,
+    s: u64,
+    all: bool,
+    any: bool,
     pos: &mut [u64],
     neg: &mut [u64],
     decided: &mut [u64],
@@ -36,11 +35,11 @@ pub fn first(
     redundant: &mut [u64],
 ) -> Going
     requires { ⌜ Ready (lent (now pos) (now neg) (now decided) (now trues) (now redundant)) ⌝ }
-    ensures { λ r. ⌜ Went (now (book .entry)) (orderOf o) opens allowance 0 true false (lent (now (pos .entry)) (now (neg .entry)) (now (decided .entry)) (now (trues .entry)) (now (redundant .entry))) r (lent (now (pos .exit)) (now (neg .exit)) (now (decided .exit)) (now (trues .exit)) (now (redundant .exit))) ⌝ }
+    ensures { λ r. ⌜ Went (now (book .entry)) (orderOf o) opens allowance s all any (lent (now (pos .entry)) (now (neg .entry)) (now (decided .entry)) (now (trues .entry)) (now (redundant .entry))) r (lent (now (pos .exit)) (now (neg .exit)) (now (decided .exit)) (now (trues .exit)) (now (redundant .exit))) ⌝ }
 {
     let a = checker::check(
         book,
-        setting::wishes(o, opens, 0),
+        settings::wishes(o, opens, s),
         allowance,
         pos,
         neg,
@@ -48,39 +47,7 @@ pub fn first(
         trues,
         redundant,
     );
-    noted(0, true, false, a)
-}
-
-// The setting after the last one, on tables that are cleared of what that one wrote.
-pub fn next(
-    book: &[u8],
-    o: Order,
-    opens: u64,
-    allowance: u32,
-    g: Going,
-    pos: &mut [u64],
-    neg: &mut [u64],
-    decided: &mut [u64],
-    trues: &mut [u64],
-    redundant: &mut [u64],
-) -> Going
-    requires { ⌜ (g .setting < opens) × Stands (now book) (orderOf o) opens allowance (g .setting) (g .last) (lent (now pos) (now neg) (now decided) (now trues) (now redundant)) ⌝ }
-    ensures { λ r. ⌜ Went (now (book .entry)) (orderOf o) opens allowance (nextSetting opens (g .setting)) (g .all) (g .any) (lent (now (pos .entry)) (now (neg .entry)) (now (decided .entry)) (now (trues .entry)) (now (redundant .entry))) r (lent (now (pos .exit)) (now (neg .exit)) (now (decided .exit)) (now (trues .exit)) (now (redundant .exit))) ⌝ }
-{
-    let last = g.last;
-    clear::counted(answer::tally_of(last), pos, neg, decided, trues, redundant);
-    let s = setting::after(opens, g.setting);
-    let a = checker::check(
-        book,
-        setting::wishes(o, opens, s),
-        allowance,
-        pos,
-        neg,
-        decided,
-        trues,
-        redundant,
-    );
-    noted(s, g.all, g.any, a)
+    noted(s, all, any, a)
 }
 
 // What is known after setting s, with its answer and what was known of those before it.

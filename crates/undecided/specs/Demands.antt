@@ -240,7 +240,9 @@ pub record Takes (bytes : List ℕ) (o : Order) (opens allowance v s : ℕ) (bef
       (k : ℕ) → undecided bytes o opens allowance before .reply ≡ Refused k →
       (unpacked w ≡ CheckRefused k) × (v′ ≡ v) × (s′ ≡ s) × (after ≡ before)
   -- or the last setting tried, with its answer and what it left
-  pub answered : (x : Tried) → TriedIs bytes o opens allowance before x → (unpacked w ≡ x .last) × (s′ ≡ x .setting) × (s′ < 2 ^ 64) × (after ≡ undecided bytes o opens allowance before .tables)
+  pub answered :
+      (x : Tried) → TriedIs bytes o opens allowance before x →
+      (unpacked w ≡ x .last) × (s′ ≡ x .setting) × (s′ < 2 ^ 64) × (after ≡ undecided bytes o opens allowance before .tables)
   -- and the verdict: 0 always, 1 sometimes, 2 never, 3 stopped
   pub always : (x : Tried) → TriedIs bytes o opens allowance before x → x .verdict ≡ Always → v′ ≡ 0
   pub sometimes : (x : Tried) → TriedIs bytes o opens allowance before x → x .verdict ≡ Sometimes → v′ ≡ 1

@@ -1,4 +1,5 @@
 -- `trying::undecided` meets its contract: a refusal changes nothing, and else the tables are cleared and the settings tried. Assumes nothing.
+use mathlib.Core.Path.{_∙_}
 use Rattle.order.specs.Values.{orderOf}
 use Rattle.contract.specs.Filled.{Tables, lent}
 use Rattle.trying.proofs.Going.{ready, replies-refused, replies-tried}
@@ -11,7 +12,7 @@ abbrev tables : tie.Start → Tables
 tables c = let a = c .args in lent (a .pos .now) (a .neg .now) (a .decided .now) (a .trues .now) (a .redundant .now)
 
 refusal-requires : tie.Need-refusal-requires
-refusal-requires c κs = search needs
+refusal-requires c κs = tt
 
 enum-known-k : tie.Need-enum-known-k
 enum-known-k c = search needs
@@ -20,7 +21,7 @@ enum-told : tie.Need-enum-told
 enum-told c = search needs
 
 all-requires : tie.Need-all-requires
-all-requires c κs = search needs
+all-requires c κs = tt
 
 -- the refusals were judged, where the tables are cleared
 abbrev judged-at : tie.After-all → tie.After-refusal
@@ -41,19 +42,19 @@ returns c =
     (c .before .k .given .1)
 
 same-length : tie.Need-same-length
-same-length c = search needs
+same-length c = let tried = c .before .before .before .before .before .before .before .before .before .before in tried .try-all .kept .1 .1 .1 .1 .0 ∙ tried .before .before .before .before .before .before .before .before .before .before .before .before .before .before .before .before .all .kept .0
 
 same-length-2 : tie.Need-same-length-2
-same-length-2 c = search needs
+same-length-2 c = let tried = c .before .before .before .before .before .before .before .before .before .before in tried .try-all .kept .1 .1 .1 .1 .1 .0 ∙ tried .before .before .before .before .before .before .before .before .before .before .before .before .before .before .before .before .all .kept .1 .0
 
 same-length-3 : tie.Need-same-length-3
-same-length-3 c = search needs
+same-length-3 c = let tried = c .before .before .before .before .before .before .before .before .before .before in tried .try-all .kept .1 .1 .1 .1 .1 .1 .0 ∙ tried .before .before .before .before .before .before .before .before .before .before .before .before .before .before .before .before .all .kept .1 .1 .0
 
 same-length-4 : tie.Need-same-length-4
-same-length-4 c = search needs
+same-length-4 c = let tried = c .before .before .before .before .before .before .before .before .before .before in tried .try-all .kept .1 .1 .1 .1 .1 .1 .1 .0 ∙ tried .before .before .before .before .before .before .before .before .before .before .before .before .before .before .before .before .all .kept .1 .1 .1 .0
 
 same-length-5 : tie.Need-same-length-5
-same-length-5 c = search needs
+same-length-5 c = let tried = c .before .before .before .before .before .before .before .before .before .before in tried .try-all .kept .1 .1 .1 .1 .1 .1 .1 .1 .0 ∙ tried .before .before .before .before .before .before .before .before .before .before .before .before .before .before .before .before .all .kept .1 .1 .1 .1 .0
 
 returns-2 : tie.Need-returns-2
 returns-2 c =

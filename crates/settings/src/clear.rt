@@ -4,7 +4,7 @@ ghost use Prim.Native.Nat.{_≤_};
 ghost use lib.ListN.{length, replicate};
 ghost use Rattle.contract.specs.Filled.{lent, written};
 ghost use Rattle.undecided.specs.Undecided.{zeroed};
-ghost use Rattle.trying.specs.Promises.{Counted, cleared};
+ghost use Rattle.settings.specs.Promises.{Counted, cleared};
 use answer::Tally;
 
 // Clears the first k places of a table.

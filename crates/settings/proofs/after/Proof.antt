@@ -1,12 +1,12 @@
--- `trying::setting::after` meets its contract: in 64 digits, s less `opens` is s and what `opens` lacks to 2^64. Assumes nothing.
+-- `settings::after` meets its contract: in 64 digits, s less `opens` is s and what `opens` lacks to 2^64. Assumes nothing.
 use mathlib.Core.Path.{_≡_, ap}
 use Prim.Native.Nat.{ℕ, _+_, _-_, _^_}
 use native.Mathlib.Omega.{arith}
 use lib.Bits.{bitAnd}
 use Rattle.undecided.specs.Settings.{nextSetting}
 use borrow.Author.Needs.{needs}
-use Rattle.trying.proofs.setting.after.Statement.{statement}
-use Rattle.trying.proofs.setting.after.Tie as tie
+use Rattle.settings.proofs.after.Statement.{statement}
+use Rattle.settings.proofs.after.Tie as tie
 
 sub-result : tie.Need-sub-result
 sub-result c = search needs

@@ -1,8 +1,8 @@
--- `trying::setting::wishes` meets its contract. Assumes nothing.
+-- `settings::wishes` meets its contract. Assumes nothing.
 use Rattle.undecided.specs.Undecided.{withSetting}
 use borrow.Author.Needs.{needs}
-use Rattle.trying.proofs.setting.wishes.Statement.{statement}
-use Rattle.trying.proofs.setting.wishes.Tie as tie
+use Rattle.settings.proofs.wishes.Statement.{statement}
+use Rattle.settings.proofs.wishes.Tie as tie
 
 minus-requires : tie.Need-minus-requires
 minus-requires c κs = search needs

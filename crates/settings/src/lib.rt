@@ -1,10 +1,12 @@
-// Settings of the open options, as words.
+// A setting of open options: the next one, the order with it, and the tables cleared before it.
 ghost use mathlib.Core.Path.{_≡_};
 ghost use Prim.Native.Nat.{_<_};
 ghost use Rattle.order.specs.Values.{orderOf};
 ghost use Rattle.undecided.specs.Settings.{nextSetting};
 ghost use Rattle.undecided.specs.Undecided.{withSetting};
 use order::Order;
+
+pub mod clear;
 
 // The setting after s: s less `opens` in 64 bits, and of that what `opens` has.
 pub fn after(opens: u64, s: u64) -> u64

@@ -1,10 +1,10 @@
--- `trying::clear::all` meets its contract: each table is cleared by itself. Assumes nothing.
+-- `settings::clear::all` meets its contract: each table is cleared by itself. Assumes nothing.
 use mathlib.Core.Path.{_∙_}
 use Rattle.contract.proofs.Filling.{tables-equal}
-use Rattle.trying.proofs.Clearing.{all-zero}
+use Rattle.settings.proofs.Clearing.{all-zero}
 use borrow.Author.Needs.{needs}
-use Rattle.trying.proofs.clear.all.Statement.{statement}
-use Rattle.trying.proofs.clear.all.Tie as tie
+use Rattle.settings.proofs.clear.all.Statement.{statement}
+use Rattle.settings.proofs.clear.all.Tie as tie
 
 first-places-requires : tie.Need-first-places-requires
 first-places-requires c κs = search needs
@@ -22,19 +22,19 @@ first-places-requires-5 : tie.Need-first-places-requires-5
 first-places-requires-5 c κs = search needs
 
 same-length : tie.Need-same-length
-same-length c = search needs
+same-length c = c .before .before .before .before .before .before .before .before .before .before .before .before .before .before .before .before .before .before .first-places .kept .1 .0
 
 same-length-2 : tie.Need-same-length-2
-same-length-2 c = search needs
+same-length-2 c = c .before .before .before .before .before .before .before .before .before .before .before .before .before .before .first-places2 .kept .1 .0
 
 same-length-3 : tie.Need-same-length-3
-same-length-3 c = search needs
+same-length-3 c = c .before .before .before .before .before .before .before .before .before .before .first-places3 .kept .1 .0
 
 same-length-4 : tie.Need-same-length-4
-same-length-4 c = search needs
+same-length-4 c = c .before .before .before .before .before .before .first-places4 .kept .1 .0
 
 same-length-5 : tie.Need-same-length-5
-same-length-5 c = search needs
+same-length-5 c = c .before .before .first-places5 .kept .1 .0
 
 returns : tie.Need-returns
 returns c =

@@ -1,12 +1,12 @@
--- `trying::clear::first_places` meets its contract: after i turns the first i places are zero, and the rest is as it was. Assumes nothing.
+-- `settings::clear::first_places` meets its contract: after i turns the first i places are zero, and the rest is as it was. Assumes nothing.
 use mathlib.Core.Path.{_≡_, refl, ap, _∙_}
 use Prim.Native.Nat.{ℕ, _-_, _≤_}
 use native.Mathlib.Omega.{arith}
 use lib.ListN.{length, replicate}
 use Rattle.contract.specs.Filled.{written}
-use Rattle.trying.proofs.Clearing.{zeroed-next, zeroed-length}
-use Rattle.trying.proofs.clear.first_places.Statement.{statement}
-use Rattle.trying.proofs.clear.first_places.Tie as tie
+use Rattle.settings.proofs.Clearing.{zeroed-next, zeroed-length}
+use Rattle.settings.proofs.clear.first_places.Statement.{statement}
+use Rattle.settings.proofs.clear.first_places.Tie as tie
 
 abbrev Inv-loop : tie.InvT-loop
 Inv-loop k t₀ i₀ t i = (i ≤ k) × (k ≤ length t₀) × (t ≡ written (replicate i 0) t₀)

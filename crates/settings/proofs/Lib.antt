@@ -1,0 +1,2 @@
+-- Laws of a cleared table.
+pub mod Clearing
