@@ -1,13 +1,9 @@
 // The check, the morning and open options for C and Rust: exported functions on numbers and slices (rust/optcheck/include/optcheck.h is their header).
-ghost use mathlib.Core.Path.{_≡_};
 ghost use Rattle.contract.specs.Filled.{lent};
 ghost use Rattle.morning.specs.Morning.{Serves};
-ghost use Rattle.undecided.specs.Told.{verdictNumber, Told};
+ghost use Rattle.undecided.specs.Told.{Told};
 ghost use Rattle.optcheck_c.specs.Exported.{Exported};
-use answer::Answer;
 use order::Order;
-use undecided::Reply;
-use undecided::Verdict;
 
 // Checks the book and the order, fills the lent tables and returns the answer as one word (crate `answer`, `packed`).
 #[no_mangle]
@@ -62,8 +58,7 @@ pub extern "C" fn optcheck_morning(
     )
 }
 
-// Tries the settings of the options in `opens` (crate `trying`), and returns the word of the last setting's answer, or that of a refusal. `verdict` is then the
-// number of the verdict and `setting` the last setting tried; a refusal changes neither.
+// Tries the settings of the options in `opens` (crate `telling`): the word of the last setting's answer, or that of a refusal, which changes nothing.
 #[no_mangle]
 pub extern "C" fn optcheck_undecided(
     book: &[u8],
@@ -87,36 +82,17 @@ pub extern "C" fn optcheck_undecided(
         unwanted,
         standard,
     };
-    match trying::undecided(
+    telling::undecided(
         book,
         order,
         opens,
         allowance,
+        verdict,
+        setting,
         pos,
         neg,
         decided,
         trues,
         redundant,
-    ) {
-        Reply::Refused(k) => answer::word_of(Answer::Refused(k)),
-        Reply::Tried(found) => {
-            let told = found.verdict;
-            let last = found.last;
-            *verdict = verdict_number(told);
-            *setting = found.setting;
-            answer::word_of(last)
-        }
-    }
-}
-
-// 0 always, 1 sometimes, 2 never, 3 stopped.
-fn verdict_number(v: Verdict) -> u32
-    ensures { λ r. ⌜ r ≡ verdictNumber v ⌝ }
-{
-    match v {
-        Verdict::Always => 0,
-        Verdict::Sometimes => 1,
-        Verdict::Never => 2,
-        Verdict::Stopped => 3,
-    }
+    )
 }

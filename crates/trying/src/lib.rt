@@ -11,8 +11,8 @@ use undecided::Tried;
 mod judge;
 mod turn;
 
-// Tries every setting of the options in `opens`, lowest word first: the order, with the open options of the setting wanted and the other open ones unwanted. A refusal
-// changes nothing. Otherwise the tables are cleared before each setting, and keep what the last one wrote, with zeros after it.
+// Tries every setting of the options in `opens`, lowest word first: the order, with the open options of the setting wanted and the other open ones
+// unwanted. A refusal changes nothing. Otherwise the tables are cleared before each setting, and keep what the last one wrote, with zeros after it.
 pub fn undecided(
     book: &[u8],
     o: Order,
