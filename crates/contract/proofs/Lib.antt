@@ -5,3 +5,4 @@ pub mod Filling
 pub mod NeverCovered
 pub mod Completed
 pub mod Demands
+pub mod Asked

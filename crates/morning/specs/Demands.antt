@@ -4,25 +4,19 @@
 -- `answers`. Bytes, words and tables are any, and an allowance has 32 bits. What a single check is and does is said in crate `contract`.
 use mathlib.Core.Path.{_≡_}
 use mathlib.Core.List.{List, [], _∷_, _++_}
-use mathlib.Core.Logic.{_⊎_, _↔_}
-use Prim.Native.Nat.{ℕ, zero, suc, _-_, _*_, _/_, _%_, _^_, _≤_, _<_}
+use mathlib.Core.Logic.{_↔_}
+use Prim.Native.Nat.{ℕ, zero, suc, _*_, _/_, _%_, _^_, _≤_, _<_}
 use lib.ListN.{length, getD, replicate}
-use Rattle.steps.specs.Run.{Outcome}
-use Rattle.steps.specs.Meaning.{Buildable}
 use Rattle.steps.specs.Marked.{clause}
-use Rattle.steps.specs.Demands.{DerivedFollow, RecordsHold, Enough, Spent}
-use Rattle.order.specs.Order.{Order, complete}
+use Rattle.order.specs.Order.{Order}
 use Rattle.order.specs.Demands.{order}
-use Rattle.book.specs.Bytes.{varsIn, rulesIn, encode}
-use Rattle.book.specs.Conditions.{First, NoRow, bookConditions}
+use Rattle.book.specs.Bytes.{encode}
 use Rattle.answer.specs.Answer.{tallyIn}
 use Rattle.answer.specs.Packed.{packed, unpacked}
-use Rattle.answer.specs.declared.Tally.{Tally}
-use Rattle.answer.specs.declared.Answer.{Answer}
 use Rattle.answer.specs.declared.Answer.the-variants.{Can, Cannot, Refused}
-use Rattle.contract.specs.Check.{Lengths, outcome, check}
-use Rattle.contract.specs.Filled.{Tables, lent, lengths, filled, Checked}
-use Rattle.contract.specs.Demands.{answer, Permitted, checkConditions, Named, firstPlaces, Fills, Tells, Uncovered, Settled, StopsOnBranchings, StopsOnPlaces, IsVerdict}
+use Rattle.contract.specs.Filled.{Tables, lent, lengths, Checked}
+use Rattle.contract.specs.Asked.{Demanded, RefusedFirst}
+use Rattle.contract.specs.Demands.{Permitted, firstPlaces}
 use Rattle.morning.specs.Parts.{part, partOf, remainder, remainderOf, partLengths}
 use Rattle.morning.specs.Morning.{orderAt, Left, morning}
 
@@ -125,59 +119,19 @@ OthersNoPart =
 
 -- ---- refused orders
 
--- an order is refused by the first condition that holds, where 9 is judged on its part. A refused order's part is as it was
-pub record OrderRefused (bytes : List ℕ) (o : Order) (part : Lengths) (before : Tables) (w : ℕ) (after : Tables) : Type 0 where
-  pub when : (j : ℕ) → (unpacked w ≡ Refused j) ↔ First (checkConditions bytes o part) j
-  pub untouched : (j : ℕ) → unpacked w ≡ Refused j → after ≡ before
-  -- a refusal of the book is the answer to every order
-  pub book : (j : ℕ) → First (bookConditions bytes) j → unpacked w ≡ Refused j
-
--- so it is of every order; the lengths of a part are those of the tables, by the number of orders
+-- every order is refused by the first condition that holds, where 9 is judged on its part: the lengths of a part are those of the tables, by the number of orders. A
+-- refused order's part is as it was (`RefusedFirst`, crate `contract`)
 abbrev pub OrdersRefused : Type 0
 OrdersRefused =
     (bytes words : List ℕ) (allowance : ℕ) (answers : List ℕ) (t : Tables) → allowance < 2 ^ 32 → OneToSixteen words answers →
     (i : ℕ) → i < length answers →
     let k : ℕ = length answers in
     let left : Left = morning bytes words allowance answers t in
-    OrderRefused bytes (orderAt words i) (partLengths k (lengths t)) (partOf k i t) (wordOf left i) (partOf k i (left .tables))
+    RefusedFirst bytes (orderAt words i) (partLengths k (lengths t)) (partOf k i t) (unpacked (wordOf left i)) (partOf k i (left .tables))
 
 -- ---- demands 1 to 3, for every order of a morning
 
--- an order that is not refused, with its outcome r: demands 1 and 2 of a single check, of this answer and this part; and no derived rule is covered by an earlier
--- one. Of demand 3: a stop has spent what it says, within the allowance and the part's places
-pub record RightOrder (bytes : List ℕ) (o : Order) (allowance places : ℕ) (r : Outcome) (before : Tables) (a : Answer) (after : Tables) : Type 0 where
-  pub told : Tells r a
-  pub can-only : (c : Tally) → a ≡ Can c → Buildable (varsIn bytes) (rulesIn bytes) (complete o)
-  pub cannot-only : (c : Tally) → a ≡ Cannot c → Buildable (varsIn bytes) (rulesIn bytes) (complete o) → ⊥
-  pub derived : DerivedFollow (varsIn bytes) (rulesIn bytes) (complete o) r
-  pub records : RecordsHold (varsIn bytes) (rulesIn bytes) (complete o) r
-  pub fills : Fills r before after
-  pub uncovered : Uncovered bytes o r after
-  pub spent : Spent allowance places r
-
--- an order that is settled with the outcome r, with so many places: enough of both gives it this outcome, and less a stop by what is spent; stop 10 where only the
--- branchings are too few, and stop 11 where only the places are
-pub record Bought (r : Outcome) (allowance places : ℕ) (before : Tables) (a : Answer) (after : Tables) : Type 0 where
-  pub enough : Enough r allowance places → Tells r a × Fills r before after
-  pub stops : (Enough r allowance places → ⊥) → StopsOnBranchings allowance a ⊎ StopsOnPlaces places a
-  pub fewer-branchings : allowance < r .branchings → length (r .derived) ≤ places → StopsOnBranchings allowance a
-  pub fewer-places : r .branchings ≤ allowance → places < length (r .derived) → StopsOnPlaces places a
-
--- an order with its part, whose lengths are l: the places for derived rules are `l .pos`
-pub record Demanded (bytes : List ℕ) (o : Order) (allowance : ℕ) (l : Lengths) (before : Tables) (a : Answer) (after : Tables) : Type 0 where
-  -- 1: a verdict, a numbered refusal or a named stop
-  pub named : Named a
-  -- 2, where nothing is refused
-  pub right : NoRow (checkConditions bytes o l) → RightOrder bytes o allowance (l .pos) (outcome bytes o allowance l) before a after
-  -- 3: what the allowance and the part buy, and what is always enough
-  pub bought : (r : Outcome) → Settled bytes o r → Permitted l → Bought r allowance (l .pos) before a after
-  pub always : NoRow (checkConditions bytes o l) → 2 ^ varsIn bytes - 1 ≤ allowance → 2 ^ varsIn bytes - 1 ≤ l .pos → IsVerdict a
-  -- the rest of demand 3 is said of `check bytes o allowance l` (crate `contract`): which stop it is where both are too few, how the derived rules of two runs begin,
-  -- and the bound. This order's answer and part are those of that check
-  pub answer-is : a ≡ answer bytes o allowance l
-  pub part-is : after ≡ filled (check bytes o allowance l) before
-
--- so it is of every order, with the whole allowance
+-- `Demanded` (crate `contract`) is what they say of an answer and the tables it left; so it is of every order and its part, with the whole allowance
 abbrev pub CarryOver : Type 0
 CarryOver =
     (bytes words : List ℕ) (allowance : ℕ) (answers : List ℕ) (t : Tables) → allowance < 2 ^ 32 → OneToSixteen words answers →

@@ -1,9 +1,12 @@
-// The check, the morning and open options for C and Rust: exported functions on numbers and slices (rust/optcheck/include/optcheck.h is their header).
+// The check, the morning, open options and the terminal for C and Rust: exported functions on numbers and slices (rust/optcheck/include/optcheck.h is their header).
 ghost use Rattle.contract.specs.Filled.{lent};
 ghost use Rattle.morning.specs.Morning.{Serves};
 ghost use Rattle.undecided.specs.Told.{Told};
+ghost use Rattle.sites.specs.Handed.{terminalOf, HandsOpening, HandsSite};
 ghost use Rattle.optcheck_c.specs.Exported.{Exported};
 use order::Order;
+use sites::Opening;
+use sites::Terminal;
 
 // Checks the book and the order, fills the lent tables and returns the answer as one word (crate `answer`, `packed`).
 #[no_mangle]
@@ -95,4 +98,62 @@ pub extern "C" fn optcheck_undecided(
         trues,
         redundant,
     )
+}
+
+// Opens a terminal for so many sites and one allowance (crate `terminal`): 0, and it stands in `left`, `part` and `sites`; or 21, and nothing is changed.
+#[no_mangle]
+pub extern "C" fn optcheck_terminal(
+    count: usize,
+    allowance: u32,
+    left: &mut u32,
+    part: &mut u32,
+    sites: &mut u32,
+) -> u32
+    ensures { λ r. ⌜ HandsOpening count allowance (terminalOf (now (left .entry)) (now (part .entry)) (now (sites .entry))) r (terminalOf (now (left .exit)) (now (part .exit)) (now (sites .exit))) ⌝ }
+{
+    match terminal::open_for(count, allowance) {
+        Opening::Refused(k) => k,
+        Opening::Opened(t) => {
+            *left = t.left;
+            *part = t.part;
+            *sites = t.sites;
+            0
+        }
+    }
+}
+
+// Serves the next site of a terminal (crate `terminal`), and returns the word of its answer. `left` and `sites` are then those for the next site.
+#[no_mangle]
+pub extern "C" fn optcheck_site(
+    book: &[u8],
+    wanted: u64,
+    unwanted: u64,
+    standard: u64,
+    left: &mut u32,
+    part: u32,
+    sites: &mut u32,
+    pos: &mut [u64],
+    neg: &mut [u64],
+    decided: &mut [u64],
+    trues: &mut [u64],
+    redundant: &mut [u64],
+) -> u64
+    ensures { λ r. ⌜ HandsSite (now (book .entry)) (terminalOf (now (left .entry)) part (now (sites .entry))) (record { wanted = wanted; unwanted = unwanted; standard = standard }) (lent (now (pos .entry)) (now (neg .entry)) (now (decided .entry)) (now (trues .entry)) (now (redundant .entry))) r (terminalOf (now (left .exit)) part (now (sites .exit))) (lent (now (pos .exit)) (now (neg .exit)) (now (decided .exit)) (now (trues .exit)) (now (redundant .exit))) ⌝ }
+{
+    let order = Order {
+        wanted,
+        unwanted,
+        standard,
+    };
+    let before = Terminal {
+        left: *left,
+        part,
+        sites: *sites,
+    };
+    let served = terminal::serve(before, book, order, pos, neg, decided, trues, redundant);
+    let told = served.answer;
+    let next = served.terminal;
+    *left = next.left;
+    *sites = next.sites;
+    answer::word_of(told)
 }

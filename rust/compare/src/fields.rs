@@ -45,6 +45,14 @@ pub fn order(text: &str) -> Result<Order, String> {
     Ok(Order { wanted, unwanted, standard })
 }
 
+/// The three words of a site's order, and the lengths of its five tables.
+pub fn order_and_places(text: &str) -> Result<(Order, Places), String> {
+    let [wanted, unwanted, standard, lengths @ ..]: [u64; 8] = numbers(text)?;
+    let [pos, neg, decided, trues, redundant] = lengths.map(|length| length as usize);
+    let places = Places { derived: [pos, neg], records: [decided, trues, redundant] };
+    Ok((Order { wanted, unwanted, standard }, places))
+}
+
 #[cfg(test)]
 mod tests {
     use super::*;
@@ -55,6 +63,8 @@ mod tests {
         assert_eq!((derived, records), ([1, 2], [3, 4, 5]));
         let due = Order { wanted: 6, unwanted: 7, standard: 8 };
         assert_eq!(order("6 7 8"), Ok(due));
+        let (order, Places { derived, records }) = order_and_places("6 7 8 1 2 3 4 5").unwrap();
+        assert_eq!((order, derived, records), (due, [1, 2], [3, 4, 5]));
     }
 
     #[test]

@@ -1,8 +1,11 @@
 //! The proved static library as a checker.
 
-use crate::lent::{morning, open, Lent};
-use crate::question::{in_turn, tried_text, Check, Morning, Open, Question};
+use crate::lent::{morning, open, sites, terminal, Lent};
+use crate::question::{after_text, first_difference, in_turn, tried_text, Question};
+use crate::question::{Check, Morning, Open, Sites, Terminal};
 use crate::under_test::UnderTest;
+use optcheck::Site;
+use port::{Outcome, Places};
 
 /// The library, with this rubbish in the tables that it is lent.
 pub struct Library {
@@ -18,7 +21,10 @@ impl UnderTest for Library {
     fn takes(&self, question: &Question) -> bool {
         match question {
             Question::Check(check) => check.parts().is_some(),
-            Question::Morning(_) | Question::Open(_) => true,
+            Question::Morning(_)
+            | Question::Open(_)
+            | Question::Sites(_)
+            | Question::Terminal(_) => true,
         }
     }
 
@@ -27,6 +33,8 @@ impl UnderTest for Library {
             Question::Check(check) => self.check(check),
             Question::Morning(morning) => self.morning(morning),
             Question::Open(open) => self.open(open),
+            Question::Sites(sites) => self.sites(sites),
+            Question::Terminal(terminal) => self.terminal(terminal),
         }
     }
 }
@@ -55,4 +63,58 @@ impl Library {
         })?;
         Ok(tried_text(&tried))
     }
+
+    /// The sites are served in a call each, and then all in one call, which must give the same.
+    fn sites(&self, question: &Sites) -> Result<String, String> {
+        let (by_calls, together) = (self.by_calls(question)?, self.together(question)?);
+        match by_calls == together {
+            true => Ok(in_turn(&by_calls)),
+            false => {
+                let line = first_difference(&in_turn(&together), &in_turn(&by_calls));
+                Err(format!("all sites in one call: {line}"))
+            }
+        }
+    }
+
+    fn by_calls(&self, question: &Sites) -> Result<Served, String> {
+        let Sites { book, sites, allowance } = question;
+        sites::lend(
+            &places(question),
+            *allowance,
+            self.rubbish,
+            |[left, part, to_come]| {
+                optcheck::terminal_words(sites.len(), *allowance, left, part, to_come)
+            },
+            |index, [left, to_come], part, tables| {
+                let order = sites[index].order;
+                optcheck::site_words(book, order, left, part, to_come, tables)
+            },
+        )
+    }
+
+    fn together(&self, question: &Sites) -> Result<Served, String> {
+        let Sites { book, sites, allowance } = question;
+        sites::lend_to_all(&places(question), self.rubbish, |tables| {
+            let with_tables = sites.iter().zip(tables);
+            let list = with_tables.map(|(site, tables)| Site { order: site.order, tables });
+            optcheck::sites(book, list.collect(), *allowance)
+        })
+    }
+
+    fn terminal(&self, question: &Terminal) -> Result<String, String> {
+        let Terminal { book, left, part, sites, order, places } = question;
+        let after =
+            terminal::lend(places, [*left, *sites], self.rubbish, |[left, sites], tables| {
+                optcheck::site_words(book, *order, left, *part, sites, tables)
+            })?;
+        Ok(after_text(&after))
+    }
+}
+
+/// The outcomes of sites in turn, or the number of the refusal.
+type Served = Result<Vec<Outcome>, u32>;
+
+/// The lengths of each site's tables.
+fn places(sites: &Sites) -> Vec<Places> {
+    sites.sites.iter().map(|site| site.places).collect()
 }

@@ -24,6 +24,7 @@ mod refused;
 mod shapes;
 mod small;
 mod tallies;
+mod terminals;
 mod undecided;
 mod under_test;
 mod vectors;
@@ -35,8 +36,8 @@ use under_test::{Port, Program, UnderTest};
 
 const USAGE: &str = "\
 compare differential [--program PATH] [--seed S] [--books N] [--solver NAME]
-    generated books, mornings and open options through the checker and the port, each verdict on a
-    book also by an outside solver
+    generated books, mornings, open options and sites through the checker and the port, each verdict
+    on a book also by an outside solver
 compare vectors FILE... [--program PATH]
     the cases of these files through the checker and the port
 compare allowances
@@ -46,8 +47,8 @@ compare tallies [--seed S] [--books N]
 compare framed FILE FOLDER
     the program's cases of a file as the test program `vectors` reads and writes them, in FOLDER
 compare bench [--seed S] [--solver NAME]
-    the same books through the checker, the port and outside solvers, and mornings and open options
-    beside single checks, as tables
+    the same books through the checker, the port and outside solvers, and mornings, open options and
+    sites beside single checks, as tables
 
 The checker is the program at PATH or, where compare is built with the feature `proved`, the library.
 The outside solver is the first installed of minisat, cadical and picosat, if NAME does not say.
@@ -56,8 +57,8 @@ The outside solver is the first installed of minisat, cadical and picosat, if NA
 const SEED: u64 = 1;
 const BOOKS: usize = 4000;
 
-/// What the lent tables hold before a run; for mornings and open options, its complement in turn with
-/// it.
+/// What the lent tables hold before a run; for mornings, open options and sites, its complement in turn
+/// with it.
 const RUBBISH: u64 = 0xa5a5_5a5a_a5a5_5a5a;
 
 /// The words of the command line after the subcommand.
@@ -126,6 +127,9 @@ fn differential(words: &Words) -> Result<(), String> {
         print!("{}", tally.told());
     }
     if let Some(tally) = undecided::run(&mut tested, seed, undecided::beside(books))? {
+        print!("{}", tally.told());
+    }
+    if let Some(tally) = terminals::run(&mut tested, seed, terminals::beside(books))? {
         print!("{}", tally.told());
     }
     println!("no difference, in {:.1} s", start.elapsed().as_secs_f64());

@@ -58,7 +58,11 @@ impl UnderTest for Program {
 fn standard_input(question: &Question) -> Option<&[u8]> {
     match question {
         Question::Check(check) if check.is_of_program() => Some(&check.input),
-        Question::Check(_) | Question::Morning(_) | Question::Open(_) => None,
+        Question::Check(_)
+        | Question::Morning(_)
+        | Question::Open(_)
+        | Question::Sites(_)
+        | Question::Terminal(_) => None,
     }
 }
 
@@ -81,7 +85,7 @@ mod tests {
     use super::*;
     use crate::kinds::case;
     use crate::question::Check;
-    use crate::{mornings, undecided};
+    use crate::{mornings, terminals, undecided};
 
     #[test]
     fn a_program_gets_the_input_and_its_output_comes_back() {
@@ -111,5 +115,7 @@ mod tests {
         assert!(program.takes(&own.into()));
         assert!(!program.takes(&mornings::morning(1, 1).into()));
         assert!(!program.takes(&undecided::open(1, 1).into()));
+        assert!(!program.takes(&terminals::sites(1, 1).into()));
+        assert!(!program.takes(&terminals::terminal(1, 1).into()));
     }
 }

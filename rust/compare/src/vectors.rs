@@ -10,7 +10,7 @@ use std::collections::BTreeMap;
 use std::fmt::Write;
 
 /// Questions of the format that no checker answers yet.
-const NOT_YET: [&str; 6] = ["sites", "page", "desk", "join", "turns", "cheapest"];
+const NOT_YET: [&str; 5] = ["page", "desk", "join", "turns", "cheapest"];
 
 /// A case: its name, what is asked, and what must be printed.
 struct Vector {
@@ -150,6 +150,22 @@ mod tests {
                         allowance 0\ntables 1 1 64 65 66\norder 0 0 0\nundecided 1\nout\n\
                         stopped 1\nstopped 10 0 0 0\nend\n";
 
+    /// The book of the rules "1" and "not 1", and two sites that need a branching each and share one.
+    const TWO_SITES: &str = "case two sites\nsites\n\
+                             book 010200\
+                             01000000000000000000000000000000\
+                             00000000000000000100000000000000\n\
+                             allowance 1\n\
+                             site 0 0 0 1 1 64 64 64\nsite 0 0 0 1 1 64 64 64\nout\n\
+                             cannot 0 1 1 1\nd 0 0\nr 0 0 1\nstopped 10 0 0 0\nend\n";
+    const SITE: &str = "site 0 0 0 1 1 64 64 64\n";
+    const TWO_ANSWERS: &str = "cannot 0 1 1 1\nd 0 0\nr 0 0 1\nstopped 10 0 0 0\n";
+
+    /// A book without options and rules, and a site whose order names an option.
+    const TERMINAL: &str = "case terminal\nterminal\nbook 000000\nnumbers 8 4 3\n\
+                            site 1 0 0 0 0 64 64 64\nout\n\
+                            refused 7 0 0 0\nleft 8\nsites 2\nend\n";
+
     fn through_the_port(text: &str) -> Result<(Score, String), String> {
         run(&mut [Box::new(Port)], text)
     }
@@ -210,6 +226,27 @@ mod tests {
     }
 
     #[test]
+    fn the_answers_to_sites_stand_one_after_the_other() {
+        let none = TWO_SITES.replace(SITE, "").replace("two sites", "no site");
+        let none = none.replace(TWO_ANSWERS, "refused 21 0 0 0\n");
+        let (score, told) = through_the_port(&format!("{TWO_SITES}{none}")).unwrap();
+        assert_eq!((score.agree, told.as_str()), (2, ""));
+        let more = TWO_SITES.replace("allowance 1", "allowance 2");
+        let (_, told) = through_the_port(&more).unwrap();
+        let due = "line 4 is `cannot 0 1 1 1`, due is `stopped 10 0 0 0`";
+        assert_eq!(told, format!("case two sites differs, port: {due}\n"));
+    }
+
+    #[test]
+    fn a_terminal_stands_after_its_sites_outcome() {
+        let (score, told) = through_the_port(TERMINAL).unwrap();
+        assert_eq!((score.agree, told.as_str()), (1, ""));
+        let (_, told) = through_the_port(&TERMINAL.replace("left 8", "left 7")).unwrap();
+        let due = "line 2 is `left 8`, due is `left 7`";
+        assert_eq!(told, format!("case terminal differs, port: {due}\n"));
+    }
+
+    #[test]
     fn what_is_not_known_yet_is_skipped_by_name() {
         let desk = "case a desk\ndesk 3\nset 1 fitted\nout\n0\n0\norder 1 0\nend\n";
         let (score, told) = through_the_port(&format!("{SMALL}{desk}")).unwrap();
@@ -246,6 +283,7 @@ mod tests {
             ("reading.txt", 420),
             ("morning.txt", 250),
             ("open.txt", 250),
+            ("sites.txt", 250),
         ];
         for (file, cases) in files {
             let text = std::fs::read_to_string(format!("{folder}/{file}")).unwrap();

@@ -1,14 +1,16 @@
-//! The proved check, that of a morning's orders together, and that of every setting of open options,
-//! through the wrapper: tables are lent to the library, and what it wrote into them is taken out. Each
-//! answer here is the library's own.
+//! The proved check, that of a morning's orders together, that of every setting of open options, and that
+//! of sites that share one allowance, through the wrapper: tables are lent to the library, and what it
+//! wrote into them is taken out. Each answer here is the library's own.
 
 #[cfg(feature = "proved")]
 use crate::lent::Lent;
 use crate::{Book, Order, Rule};
+#[cfg(feature = "proved")]
+use optcheck::Terminal;
 pub use optcheck::{Answer, Kind, Verdict};
 
 /// What a check may use, each check of a morning, and each setting of open options: branchings, and
-/// places for derived rules.
+/// places for derived rules. Sites share the branchings, and each has so many places.
 #[derive(Clone, Copy, Debug, PartialEq, Eq)]
 pub struct Limits {
     pub allowance: u32,
@@ -47,6 +49,16 @@ pub struct Tried {
 /// What an order with open options ends with: the settings that were tried, or the number of the
 /// refusal.
 pub type Undecided = Result<Tried, u32>;
+
+/// A site that was served: the branchings that it might use, and what its check ended with.
+#[derive(Clone, Debug, PartialEq, Eq)]
+pub struct Served {
+    pub allowance: u32,
+    pub checked: Checked,
+}
+
+/// What sites end with: each site that was served, in turn, or the number of the refusal of all of them.
+pub type Sites = Result<Vec<Served>, u32>;
 
 /// The proved library is not linked.
 #[derive(Clone, Copy, Debug, PartialEq, Eq)]
@@ -105,6 +117,21 @@ pub fn undecided(
     }))
 }
 
+/// The proved checks of sites' orders against one book, in turn. They share the allowance of these limits,
+/// and each has the places.
+#[cfg(feature = "proved")]
+pub fn sites(book: &Book, orders: &[Order], limits: Limits) -> Result<Sites, Unlinked> {
+    let bytes = crate::bytes::book_bytes(book);
+    let serve = |terminal: &mut Terminal, order: Order| {
+        let mut lent = Lent::new(1, limits.places);
+        let allowance = terminal.allowance();
+        let answer = terminal.serve(&bytes, order, lent.tables());
+        Served { allowance, checked: lent.checked(0, answer) }
+    };
+    let opened = Terminal::open(orders.len(), limits.allowance);
+    Ok(opened.map(|mut terminal| orders.iter().map(|&order| serve(&mut terminal, order)).collect()))
+}
+
 /// Without the library nothing is checked.
 #[cfg(not(feature = "proved"))]
 pub fn check(_: &Book, _: Order, _: Limits) -> Result<Checked, Unlinked> {
@@ -120,5 +147,11 @@ pub fn morning(_: &Book, _: &[Order], _: Limits) -> Result<Morning, Unlinked> {
 /// Without the library nothing is checked.
 #[cfg(not(feature = "proved"))]
 pub fn undecided(_: &Book, _: Order, _: u64, _: Limits) -> Result<Undecided, Unlinked> {
+    Err(Unlinked)
+}
+
+/// Without the library nothing is checked.
+#[cfg(not(feature = "proved"))]
+pub fn sites(_: &Book, _: &[Order], _: Limits) -> Result<Sites, Unlinked> {
     Err(Unlinked)
 }

@@ -3,6 +3,7 @@
 use crate::ending::Failure;
 use optbook::mistake::{Mistake, Place};
 use optbook::sheet::Sheet;
+use optbook::Order;
 use std::io::{self, Read};
 use std::{fs, str};
 
@@ -44,6 +45,19 @@ pub fn read_sheet(files: &[String]) -> Result<Sheet, Failure> {
         sheet.read(name(file), &read_text(file)?)?;
     }
     Ok(sheet)
+}
+
+/// The sheet of a book, which is the first file, and each of the orders after it, read after the book.
+pub fn read_orders(files: &[String]) -> Result<(Sheet, Vec<Order>), Failure> {
+    let (book, orders) = files.split_at(1);
+    let sheet = read_sheet(book)?;
+    let of_file = |file: &String| {
+        let mut with_order = sheet.clone();
+        with_order.read_order(name(file), &read_text(file)?)?;
+        Ok(with_order.order())
+    };
+    let orders = orders.iter().map(of_file).collect::<Result<_, Failure>>()?;
+    Ok((sheet, orders))
 }
 
 /// So many names: those of a book where one is given, else x1, x2, ...

@@ -22,6 +22,7 @@ fn reason(number: u32) -> &'static str {
         13 => "the number of orders is not 1 to 16",
         19 => "more than 10 options are open, or one is above the book's last",
         20 => "an open option is also wanted or unwanted",
+        21 => "the number of sites is not 1 to 8",
         _ => "no number of the table",
     }
 }
@@ -112,6 +113,8 @@ mod tests {
         assert_eq!(told(Kind::Refused, 19), nineteen);
         let twenty = "refused, number 20: an open option is also wanted or unwanted";
         assert_eq!(told(Kind::Refused, 20), twenty);
+        let twenty_one = "refused, number 21: the number of sites is not 1 to 8";
+        assert_eq!(told(Kind::Refused, 21), twenty_one);
         assert_eq!(told(Kind::Refused, 63), "refused, number 63: no number of the table");
     }
 

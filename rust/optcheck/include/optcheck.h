@@ -1,12 +1,13 @@
 /*
  * The option book checker, for C. One call checks an order against a book, writes the outcome into
  * tables that the caller lends, and returns the answer as one word; another checks several orders
- * of one book; a third checks an order with every setting of options that are left open. Every
- * length is permitted: a bad one is a refusal.
+ * of one book; a third checks an order with every setting of options that are left open; two more
+ * serve sites, one a call, that share one allowance. Every length is permitted: a bad one is a
+ * refusal.
  *
  * The book, the orders, the answers and each table are a pointer and a length in elements, and a
- * verdict and a setting are pointers. No two of them overlap; the book and the orders are only
- * read. A pointer with the length 0 is not used, and must not be null.
+ * verdict, a setting and the numbers of a terminal are pointers. No two of them overlap; the book
+ * and the orders are only read. A pointer with the length 0 is not used, and must not be null.
  */
 
 #ifndef OPTCHECK_H
@@ -19,13 +20,14 @@
 extern "C" {
 #endif
 
-/* The limits of a book, of the lent tables, of a morning and of open options. */
+/* The limits of a book, of the lent tables, of a morning, of open options and of a terminal. */
 #define OPTCHECK_OPTIONS 64u
 #define OPTCHECK_RULES 1024u
 #define OPTCHECK_DERIVED_PLACES 2048u /* pos and neg: equal lengths, at most this */
 #define OPTCHECK_RECORD_PLACES 64u    /* decided, trues and redundant: at least this */
 #define OPTCHECK_ORDERS 16u           /* a morning: at least one order, at most this */
 #define OPTCHECK_OPEN 10u             /* open options: at most this */
+#define OPTCHECK_SITES 8u             /* a terminal: at least one site, at most this */
 
 /*
  * Checks the order (wanted, unwanted, standard) against the book, with at most `allowance`
@@ -105,6 +107,43 @@ uint64_t optcheck_undecided(
     uint64_t *trues, size_t trues_len,
     uint64_t *redundant, size_t redundant_len);
 
+/*
+ * Opens a terminal for `count` sites that share `allowance` branchings. A terminal is three
+ * numbers, which the caller keeps for optcheck_site:
+ *
+ *   left   the branchings that no site has used yet: `allowance`
+ *   part   the part of each site, in whole branchings: allowance / count
+ *   sites  the sites to come: `count`
+ *
+ * The result is 0. It is 21, and none of the three is touched, where count is not 1 to
+ * OPTCHECK_SITES.
+ */
+uint32_t optcheck_terminal(
+    size_t count, uint32_t allowance, uint32_t *left, uint32_t *part, uint32_t *sites);
+
+/*
+ * Serves the next site of a terminal: checks its order against the book, in tables of its own.
+ *
+ * The site may use left - part * (sites - 1) branchings: all that is left, but for the parts of the
+ * sites after it. So the first has its part and the remainder of the division, and each later one
+ * its part and what those before it left unused. The result, and what is written in the tables, is
+ * that of optcheck_check with this allowance. `left` becomes less by the branchings of the answer,
+ * which are none where it is a refusal, and `sites` by one.
+ *
+ * With no site to come, where sites is 0, the result is the word of refusal 21, and neither the
+ * terminal nor a table is touched; this is looked at before the book. Any three numbers may be
+ * given: where part * (sites - 1) is more than what is left, the site may use none.
+ */
+uint64_t optcheck_site(
+    const uint8_t *book, size_t book_len,
+    uint64_t wanted, uint64_t unwanted, uint64_t standard,
+    uint32_t *left, uint32_t part, uint32_t *sites,
+    uint64_t *pos, size_t pos_len,
+    uint64_t *neg, size_t neg_len,
+    uint64_t *decided, size_t decided_len,
+    uint64_t *trues, size_t trues_len,
+    uint64_t *redundant, size_t redundant_len);
+
 /* The kinds of an answer. */
 #define OPTCHECK_CAN 0u
 #define OPTCHECK_CANNOT 1u
@@ -126,8 +165,8 @@ static inline unsigned optcheck_kind(uint64_t answer) { return (unsigned)(answer
 
 /*
  * 0 for a verdict, 1 to 9 or 12 refused (12: a standard option above the book's last), 10 or 11
- * stopped. 19 and 20 are refusals of optcheck_undecided alone. 13 is no answer's number: a morning
- * that is refused has no answers.
+ * stopped. 19 and 20 are refusals of optcheck_undecided alone, and 21 one of optcheck_site alone.
+ * 13 is no answer's number: a morning that is refused has no answers.
  */
 static inline unsigned optcheck_number(uint64_t answer) { return (unsigned)(answer >> 2 & 63); }
 

@@ -1,5 +1,5 @@
-//! A safe wrapper over the proved checker's static library (include/optcheck.h). `check`, `morning`
-//! and `undecided` are there with the feature `proved`; without it nothing is linked.
+//! A safe wrapper over the proved checker's static library (include/optcheck.h). `check`, `morning`,
+//! `undecided`, `sites` and `Terminal` are there with the feature `proved`; without it nothing is linked.
 
 mod answer;
 #[cfg(feature = "proved")]
@@ -10,6 +10,8 @@ mod tried;
 pub use answer::{Answer, Kind};
 #[cfg(feature = "proved")]
 pub use library::{check, check_word, morning, morning_words, undecided, undecided_words};
+#[cfg(feature = "proved")]
+pub use library::{site_words, sites, terminal_words, Site, Terminal};
 pub use order::Order;
 use std::ops::Range;
 pub use tried::{Tried, Verdict};

@@ -1,10 +1,11 @@
 //! The same books through the library, the port, the outside solvers whose libraries are there and an
 //! outside solver's process, in one run and in turns, as a table; mornings through the library as a
-//! second one, and open options as a third. Times are medians of repeated runs; ratios hold across
-//! machines, times do not.
+//! second one, open options as a third, and sites as a fourth. Times are medians of repeated runs; ratios
+//! hold across machines, times do not.
 
 mod morning;
 mod open;
+mod sites;
 
 use crate::in_process::{Clauses, InProcess};
 use crate::outside::Solver;
@@ -74,7 +75,8 @@ pub fn run(
          the port makes its own for each."
     );
     morning::run(seed)?;
-    open::run(seed)
+    open::run(seed)?;
+    sites::run(seed)
 }
 
 /// The head of the table, after a note on each solver that is missing.

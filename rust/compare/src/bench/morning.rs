@@ -1,5 +1,5 @@
 //! A morning's orders in one call of the library beside the same orders in a call each, with the parts
-//! of the same tables, in turns.
+//! of the same tables, in turns. The rows, and how they are measured, are those of sites too (sites.rs).
 
 use super::{in_micros, median, repeats};
 use crate::random::Random;
@@ -13,49 +13,55 @@ const ORDERS: usize = 16;
 const BOOKS: usize = 10;
 
 /// A morning: the book's bytes, and the orders.
-type Morning = (Vec<u8>, Vec<Order>);
+pub type Morning = (Vec<u8>, Vec<Order>);
 
 /// Mornings with books of one kind.
-struct Row {
+pub struct Row {
     name: String,
     mornings: Vec<Morning>,
 }
 
 /// The medians of a row, each for all its mornings together.
-struct Times {
+pub struct Times {
     branchings: u64,
     together: Duration,
     singly: Duration,
 }
 
 /// The branchings of a morning, all its orders together.
-type Way = Box<dyn FnMut(&Morning) -> u64>;
+pub type Way = Box<dyn FnMut(&Morning) -> u64>;
 
 /// The two ways through the library.
-struct Ways {
-    together: Way,
-    singly: Way,
+pub struct Ways {
+    pub together: Way,
+    pub singly: Way,
 }
 
 /// Measures every row and prints the table, where there is a library.
 pub fn run(seed: u64) -> Result<(), String> {
     let Some(mut ways) = ways() else { return Ok(()) };
+    table(&format!("morning of {ORDERS} orders"), rows(seed, ORDERS), &mut ways)
+}
+
+/// Measures these rows and prints the table under this name.
+pub fn table(name: &str, rows: Vec<Row>, ways: &mut Ways) -> Result<(), String> {
     println!(
-        "\n| morning of {ORDERS} orders | books | branchings | together µs | singly µs | together / \
-         singly |\n|---|---:|---:|---:|---:|---:|"
+        "\n| {name} | books | branchings | together µs | singly µs | together / singly |\n\
+         |---|---:|---:|---:|---:|---:|"
     );
-    for row in rows(seed) {
-        println!("{}", line(&row, &measure(&row, &mut ways)?));
+    for row in rows {
+        println!("{}", line(&row, &measure(&row, ways)?));
     }
     Ok(())
 }
 
-/// The rows, from the seed: the orders are like those of the option books of the first table.
-fn rows(seed: u64) -> Vec<Row> {
+/// The rows, from the seed, with so many orders each: they are like those of the option books of the first
+/// table.
+pub fn rows(seed: u64, orders: usize) -> Vec<Row> {
     let mut random = Random::new(seed);
     let mut morning = |options| {
         let book = book_bytes(&shapes::option_book(&mut random, options));
-        let orders = (0..ORDERS).map(|_| shapes::order(&mut random, options, 12)).collect();
+        let orders = (0..orders).map(|_| shapes::order(&mut random, options, 12)).collect();
         (book, orders)
     };
     let row = |options| Row {
@@ -150,7 +156,7 @@ mod tests {
     use super::*;
 
     fn small_row() -> Row {
-        let mut rows = rows(1);
+        let mut rows = rows(1, ORDERS);
         let mut row = rows.remove(0);
         row.mornings.truncate(2);
         row
@@ -158,7 +164,7 @@ mod tests {
 
     #[test]
     fn each_row_has_mornings_of_16_orders() {
-        let rows = rows(1);
+        let rows = rows(1, ORDERS);
         assert_eq!(rows.len(), 3);
         for row in rows {
             assert_eq!(row.mornings.len(), BOOKS);

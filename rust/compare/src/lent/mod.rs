@@ -1,10 +1,13 @@
 //! Tables to lend to the library, with rubbish at every place and more places after the lent ones,
 //! so that it shows what a check has written and that it has written nothing else. For a morning each
 //! table is cut into equal parts, and an order's part has its outcome. For open options the tables are
-//! set to zero, and have the last setting's outcome.
+//! set to zero, and have the last setting's outcome. For sites each has tables of its own, and a
+//! terminal's numbers are lent too.
 
 pub mod morning;
 pub mod open;
+pub mod sites;
+pub mod terminal;
 
 use optcheck::{Answer, Kind, Tables};
 use port::{Decisions, Ending, Outcome, Places, Record, Rule, CAN, CANNOT};

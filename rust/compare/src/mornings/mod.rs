@@ -172,7 +172,7 @@ mod tests {
             match question {
                 Question::Check(check) => Ok((self.check)(check).to_string()),
                 Question::Morning(morning) => Ok(in_turn(&(self.morning)(morning))),
-                Question::Open(_) => Err("open options".to_string()),
+                _ => Err("neither a check nor a morning".to_string()),
             }
         }
     }

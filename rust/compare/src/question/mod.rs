@@ -5,10 +5,14 @@
 mod check;
 mod morning;
 mod open;
+mod sites;
+mod terminal;
 
 pub use check::{Check, ORDER};
 pub use morning::Morning;
 pub use open::{tried_text, verdict_name, Open};
+pub use sites::{Site, Sites};
+pub use terminal::{after_text, After, Terminal};
 
 use crate::fields::key_and_value;
 use crate::hex::bytes;
@@ -20,6 +24,8 @@ pub enum Question {
     Check(Check),
     Morning(Morning),
     Open(Open),
+    Sites(Sites),
+    Terminal(Terminal),
 }
 
 impl Question {
@@ -31,6 +37,8 @@ impl Question {
             ("check", "") => Ok(Check::read(fields)?.into()),
             ("morning", "") => Ok(Morning::read(fields)?.into()),
             ("open", "") => Ok(Open::read(fields)?.into()),
+            ("sites", "") => Ok(Sites::read(fields)?.into()),
+            ("terminal", "") => Ok(Terminal::read(fields)?.into()),
             (key, _) => Err(format!("`{key}` is no question")),
         }
     }
@@ -41,6 +49,8 @@ impl Question {
             Question::Check(check) => check.port_outcome().to_string(),
             Question::Morning(morning) => in_turn(&morning.port_outcomes()),
             Question::Open(open) => tried_text(&open.port_tried()),
+            Question::Sites(sites) => in_turn(&sites.port_outcomes()),
+            Question::Terminal(terminal) => after_text(&terminal.port_after()),
         }
     }
 }
@@ -60,6 +70,18 @@ impl From<Morning> for Question {
 impl From<Open> for Question {
     fn from(open: Open) -> Question {
         Question::Open(open)
+    }
+}
+
+impl From<Sites> for Question {
+    fn from(sites: Sites) -> Question {
+        Question::Sites(sites)
+    }
+}
+
+impl From<Terminal> for Question {
+    fn from(terminal: Terminal) -> Question {
+        Question::Terminal(terminal)
     }
 }
 

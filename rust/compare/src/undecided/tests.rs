@@ -24,7 +24,7 @@ impl UnderTest for Made {
         match question {
             Question::Check(check) => Ok((self.check)(check).to_string()),
             Question::Open(open) => Ok(tried_text(&(self.open)(open))),
-            Question::Morning(_) => Err("a morning".to_string()),
+            _ => Err("neither a check nor open options".to_string()),
         }
     }
 }

@@ -4,10 +4,9 @@ use super::check::{limits, LIMITS};
 use super::Verb;
 use crate::arguments::{Arguments, ANY};
 use crate::ending::{status_of, Failure, Printed};
-use crate::files::{name, on_one_line, read_sheet, read_text};
+use crate::files::{name, on_one_line, read_orders};
 use optbook::engine::{morning, Checked, Kind, Morning};
 use optbook::outcome::in_words;
-use optbook::Order;
 
 pub const VERB: Verb = Verb {
     name: "morning",
@@ -32,15 +31,9 @@ Exit status: 0 all orders can be built, else the highest of the orders: 1 cannot
 
 fn run(arguments: &Arguments) -> Result<Printed, Failure> {
     let limits = limits(arguments)?;
-    let (book, files) = arguments.files.split_at(1);
-    let sheet = read_sheet(book)?;
-    let mut orders: Vec<Order> = Vec::new();
-    for file in files {
-        let mut with_order = sheet.clone();
-        with_order.read_order(name(file), &read_text(file)?)?;
-        orders.push(with_order.order());
-    }
-    Ok(told(files, &morning(&sheet.book(), &orders, limits)?, &sheet.names))
+    let (sheet, orders) = read_orders(&arguments.files)?;
+    let morning = morning(&sheet.book(), &orders, limits)?;
+    Ok(told(&arguments.files[1..], &morning, &sheet.names))
 }
 
 /// What is printed of a morning: each order's outcome under the name of its file, or the refusal of

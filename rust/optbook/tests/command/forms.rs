@@ -3,8 +3,8 @@
 
 use crate::run::{optbook, CAN, PLANT};
 
-const VERBS: [&str; 8] =
-    ["check", "morning", "open", "explain", "bytes", "text", "dimacs", "from-dimacs"];
+const VERBS: [&str; 9] =
+    ["check", "morning", "open", "sites", "explain", "bytes", "text", "dimacs", "from-dimacs"];
 
 #[test]
 fn the_plant_goes_to_bytes_and_back() {
@@ -60,7 +60,7 @@ fn a_clause_that_is_always_kept_is_left_out_and_told() {
 
 #[test]
 fn a_mistake_is_told_once_with_file_line_and_what_was_expected() {
-    for verb in ["check", "morning", "open", "explain", "bytes", "dimacs"] {
+    for verb in ["check", "morning", "open", "sites", "explain", "bytes", "dimacs"] {
         let ended = optbook(&[verb, PLANT, "-"], b"\nwant: dram\n");
         let due = "optbook: standard input: line 2: no option is named `dram`: expected a name of \
                    an `options:` line\n";
@@ -78,22 +78,24 @@ fn a_mistake_is_told_once_with_file_line_and_what_was_expected() {
 }
 
 #[test]
-fn an_order_of_a_morning_has_no_options_and_no_rules() {
+fn an_order_of_a_morning_or_of_a_site_has_no_options_and_no_rules() {
     let due = [
         (&b"options: pump\n"[..], "line 1: `options:` stands in an order"),
         (b"want: drum\n\ndrum | screen # or\n", "line 3: a rule stands in an order"),
         (b"false\n", "line 1: a rule stands in an order"),
     ];
-    for (order, what) in due {
-        let ended = optbook(&["morning", PLANT, CAN, "-"], order);
-        let shared = "expected it in the book, which all orders share";
-        let due = format!("optbook: standard input: {what}: {shared}\n");
-        assert_eq!((ended.said, ended.status), (due, 65));
-        assert!(ended.printed.is_empty());
+    for verb in ["morning", "sites"] {
+        for (order, what) in due {
+            let ended = optbook(&[verb, PLANT, CAN, "-"], order);
+            let shared = "expected it in the book, which all orders share";
+            let due = format!("optbook: standard input: {what}: {shared}\n");
+            assert_eq!((ended.said, ended.status), (due, 65));
+            assert!(ended.printed.is_empty());
+        }
+        let ended = optbook(&[verb, PLANT, CAN, "no-such-file"], b"");
+        assert!(ended.said.starts_with("optbook: no-such-file: "), "{}", ended.said);
+        assert_eq!(ended.status, 65);
     }
-    let ended = optbook(&["morning", PLANT, CAN, "no-such-file"], b"");
-    assert!(ended.said.starts_with("optbook: no-such-file: "), "{}", ended.said);
-    assert_eq!(ended.status, 65);
 }
 
 #[test]
@@ -148,6 +150,8 @@ fn a_bad_command_line_ends_with_64_and_says_how() {
         (&["morning"], "0 files are given: expected 1 at least"),
         (&["morning", PLANT, "--names", PLANT], "`--names` is unknown here"),
         (&["open", PLANT], "1 files are given: expected 2 at least"),
+        (&["sites", "--places", "7"], "0 files are given: expected 1 at least"),
+        (&["sites", PLANT, CAN, "--sites", "2"], "`--sites` is unknown here"),
         (&["check", "-", "-"], "`-` stands twice: standard input is read once"),
         (&["bytes", PLANT, "--places", "1"], "`--places` is unknown here"),
         (
@@ -191,7 +195,7 @@ fn the_help_has_an_example_of_each_verb() {
 #[cfg(not(feature = "proved"))]
 #[test]
 fn without_the_library_nothing_is_checked() {
-    for verb in ["check", "morning", "open", "explain"] {
+    for verb in ["check", "morning", "open", "sites", "explain"] {
         let ended = optbook(&[verb, PLANT, CAN], b"");
         assert!(ended.said.starts_with("optbook: built without the proved library"));
         assert_eq!((ended.status, ended.printed.len()), (69, 0));

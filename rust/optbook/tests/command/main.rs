@@ -8,3 +8,5 @@ mod open;
 #[cfg(feature = "proved")]
 mod proved;
 mod run;
+#[cfg(feature = "proved")]
+mod sites;

@@ -1,8 +1,6 @@
 //! The verb `morning`, through the proved library.
 
-use crate::run::{optbook, Ended, CAN, PLANT};
-use std::fs;
-use std::path::Path;
+use crate::run::{file, optbook, Ended, CAN, PLANT};
 
 const CANNOT: &str = "examples/plant_cannot.order";
 
@@ -13,13 +11,6 @@ fn morning(book: &str, orders: &[(&str, &str)], flags: &[&str]) -> Ended {
     words.extend(files.iter().map(String::as_str));
     words.extend(flags);
     optbook(&words, book.as_bytes())
-}
-
-/// The path of a file with this text. No two tests have files of one name.
-fn file(name: &str, text: &str) -> String {
-    let path = Path::new(env!("CARGO_TARGET_TMPDIR")).join(name);
-    fs::write(&path, text).unwrap();
-    path.to_str().unwrap().to_string()
 }
 
 /// The endings that are told, in turn.

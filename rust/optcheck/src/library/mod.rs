@@ -2,10 +2,12 @@
 
 mod check;
 mod morning;
+mod sites;
 #[cfg(test)]
 mod small;
 mod undecided;
 
 pub use check::{check, check_word};
 pub use morning::{morning, morning_words};
+pub use sites::{site_words, sites, terminal_words, Site, Terminal};
 pub use undecided::{undecided, undecided_words};

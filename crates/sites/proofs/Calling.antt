@@ -1,0 +1,175 @@
+-- The terminal: what is left of the whole allowance is what was left unused and the parts of the sites to come, so a run of calls is the list of the definition.
+use mathlib.Core.Path.{_≡_, refl, sym, ap, ap₂, subst, subst⁻¹, _∙_}
+use mathlib.Core.Bool.{Bool, true, false}
+use mathlib.Core.List.{List, [], _∷_, _++_, map}
+use Prim.Native.Nat.{ℕ, zero, suc, _+_, _-_, _*_, _/_, _%_, _≤_}
+use native.Mathlib.Nat.{mul-suc, div-add-mod'}
+use native.Mathlib.Omega.{arith}
+use lib.ListN.{length}
+use Rattle.words.proofs.Truth.{both-ways, clash}
+use Rattle.answer.specs.declared.Answer.the-variants.{Refused as CheckRefused}
+use Rattle.sites.specs.Sites.{Site, Reply, sitesFault, usedIn, replyTo, Replies.served, sites}
+use Rattle.sites.specs.Terminal.{opened, allowanceBefore, Left, callWith, callBy, call, replyIn, calls, terminalAfter, runBy, runOfCalls}
+use Rattle.sites.specs.Handed.{terminalOf}
+use Rattle.sites.specs.Demands.{OneToEight, OpenedFor, OpenedOrRefused, usedBy, RunOfCalls, OneByOne, NoneToCome, AfterTheLast, CalledWith, AnyTerminal}
+use Rattle.sites.specs.declared.Terminal.{Terminal}
+use Rattle.sites.specs.declared.Opening.the-variants.{Refused, Opened}
+use Rattle.sites.proofs.Serving.{passing, passes, turned, used-within, servedWith, sites-turned, sites-served}
+
+-- ---- opening
+
+pub opened-turned : (k whole : ℕ) → (OneToEight k → ⊥) → opened k whole ≡ Refused 21
+unfolding opened
+opened-turned k whole n = rw (turned k n, opened) refl
+
+pub opened-for : (k whole : ℕ) → OneToEight k → opened k whole ≡ Opened (terminalOf whole (whole / k) k)
+unfolding opened
+opened-for k whole m = rw (passes k m, opened) refl
+
+pub opening : OpenedOrRefused
+opening k whole = go (sitesFault k) refl
+  where
+    go : (b : Bool) → sitesFault k ≡ b → OpenedFor k whole
+    go true e =
+        let no : OneToEight k → ⊥ = λ m. both-ways _ e (passes k m) in
+        let away = opened-turned k whole no in
+        record {
+          refused = λ j. (λ f. let same : Refused 21 ≡ Refused j = sym away ∙ f in (cc, no), λ x. away ∙ ap Refused (sym (x .0)));
+          terminal = λ t. (λ f. let other : Refused 21 ≡ Opened t = sym away ∙ f in clash cc, λ x. absurd (no (x .0)));
+        }
+    go false e =
+        let m = passing k e in
+        let first = opened-for k whole m in
+        record {
+          refused = λ j. (λ f. let other : Opened (terminalOf whole (whole / k) k) ≡ Refused j = sym first ∙ f in clash cc, λ x. absurd (x .1 m));
+          terminal = λ t. (λ f. let same : Opened (terminalOf whole (whole / k) k) ≡ Opened t = sym first ∙ f in (m, sym cc), λ x. first ∙ ap Opened (sym (x .1)));
+        }
+
+-- ---- a call
+
+-- where no site is to come
+pub none-to-come : NoneToCome
+unfolding call
+none-to-come bytes t s e = ap (callBy bytes t s) e
+
+module _ (bytes : List ℕ) where
+  -- where so many come after the next
+  pub next-called : (t : Terminal) (s : Site) (later : ℕ) → t .sites ≡ suc later → call bytes t s ≡ callWith bytes t s (allowanceBefore t later) later
+  unfolding call
+  next-called t s later e = ap (callBy bytes t s) e
+
+  -- no call uses more than is left
+  pub call-within : (t : Terminal) (s : Site) → usedIn (call bytes t s .served .answer) + call bytes t s .served .terminal .left ≤ t .left
+  call-within t s = go (t .sites) refl
+    where
+      Within : Left → Type 0
+      Within x = usedIn (x .served .answer) + x .served .terminal .left ≤ t .left
+
+      go : (n : ℕ) → t .sites ≡ n → Within (call bytes t s)
+      go zero e = subst⁻¹ Within (none-to-come bytes t s e) (omega arith)
+      go (suc later) e =
+          let few = used-within bytes (allowanceBefore t later) s in
+          subst⁻¹ Within (next-called t s later e) (omega (arith, few))
+
+  all-within : (t : Terminal) (ss : List Site) → usedBy (calls bytes t ss) ≤ t .left
+  all-within t [] = omega arith
+  all-within t (s ∷ ss) =
+      let one = call-within t s in
+      let rest = all-within (call bytes t s .served .terminal) ss in
+      omega (arith, one, rest)
+
+pub any-terminal : AnyTerminal
+unfolding replyTo
+any-terminal bytes t = record { one = one; all = all-within bytes t }
+  where
+    one : (s : Site) (later : ℕ) → t .sites ≡ suc later → CalledWith bytes t s later (call bytes t s)
+    one s later e =
+        subst⁻¹ (CalledWith bytes t s later) (next-called bytes t s later e) (record { checked = record { answer = refl; tables = refl }; left = refl; part = refl; sites = refl })
+
+-- ---- a run of calls
+
+pub one-by-one : OneByOne
+one-by-one bytes t [] more = refl
+one-by-one bytes t (s ∷ ss) more = ap (λ (rs : List Reply). replyIn (call bytes t s) ∷ rs) (one-by-one bytes (call bytes t s .served .terminal) ss more)
+
+module _ (bytes : List ℕ) where
+  -- as many calls as sites to come leave none
+  served-out : (t : Terminal) (ss : List Site) → t .sites ≡ length ss → terminalAfter bytes t ss .sites ≡ 0
+  served-out t [] e = e
+  served-out t (s ∷ ss) e = served-out _ ss (ap (λ (x : Left). x .served .terminal .sites) (next-called bytes t s (length ss) e))
+
+  -- calls where no site is to come
+  abbrev away : Site → Reply
+  away s = record { answer = CheckRefused 21; tables = s .tables }
+
+  none-calls : (t : Terminal) (ss : List Site) → t .sites ≡ 0 → (calls bytes t ss ≡ map away ss) × (terminalAfter bytes t ss ≡ t)
+  none-calls t [] e = (refl, refl)
+  none-calls t (s ∷ ss) e =
+      let first = none-to-come bytes t s e in
+      let same : call bytes t s .served .terminal ≡ t = ap (λ (x : Left). x .served .terminal) first in
+      let rest = none-calls (call bytes t s .served .terminal) ss (ap (λ (x : Terminal). x .sites) same ∙ e) in (
+        ap₂ (λ (r : Reply) (rs : List Reply). r ∷ rs) (ap replyIn first) (rest .0),
+        rest .1 ∙ same,
+      )
+
+  after-append : (t : Terminal) (ss more : List Site) → terminalAfter bytes t (ss ++ more) ≡ terminalAfter bytes (terminalAfter bytes t ss) more
+  after-append t [] more = refl
+  after-append t (s ∷ ss) more = after-append (call bytes t s .served .terminal) ss more
+
+  -- a run of calls, where what is left is what was left unused and the parts of the sites to come
+  calls-with :
+      (part unused : ℕ) (t : Terminal) (ss : List Site) → t .sites ≡ length ss → t .part ≡ part → t .left ≡ unused + part * length ss →
+      calls bytes t ss ≡ servedWith bytes part unused ss
+  calls-with part unused t [] e f g = refl
+  calls-with part unused t (s ∷ ss) e f g =
+      let m : ℕ = length ss in
+      let more : part * suc m ≡ part * m + part = mul-suc part m in
+      let others : t .part * m ≡ part * m = ap (λ (x : ℕ). x * m) f in
+      let allowance : allowanceBefore t m ≡ part + unused = omega (arith, g, more, others) in
+      let first : call bytes t s ≡ callWith bytes t s (part + unused) m = next-called bytes t s m e ∙ ap (λ (a : ℕ). callWith bytes t s a m) allowance in
+      let used : ℕ = usedIn (replyTo bytes (part + unused) s .answer) in
+      let few : used ≤ part + unused = used-within bytes (part + unused) s in
+      let next : Terminal = callWith bytes t s (part + unused) m .served .terminal in
+      let left : next .left ≡ (part + unused - used) + part * m = omega (arith, g, more, few) in
+      ap (λ (x : Left). replyIn x ∷ calls bytes (x .served .terminal) ss) first
+      ∙ ap (λ (rs : List Reply). replyTo bytes (part + unused) s ∷ rs) (calls-with part (part + unused - used) next ss refl f left)
+
+  -- calls with a terminal that was opened
+  pub calls-opened :
+      (whole : ℕ) (ss : List Site) →
+      calls bytes (terminalOf whole (whole / length ss) (length ss)) ss ≡ servedWith bytes (whole / length ss) (whole % length ss) ss
+  calls-opened whole ss =
+      let k : ℕ = length ss in
+      calls-with (whole / k) (whole % k) (terminalOf whole (whole / k) k) ss refl refl (omega (arith, div-add-mod' whole k))
+
+pub after-the-last : AfterTheLast
+after-the-last bytes whole t ss e =
+    let is = opening (length ss) whole .terminal t .0 e in
+    let none = served-out bytes t ss (ap (λ (x : Terminal). x .sites) (is .1)) in
+    record {
+      none-to-come = none;
+      further =
+          λ more.
+          one-by-one bytes t ss more
+          ∙ ap (λ (rs : List Reply). calls bytes t ss ++ rs) (none-calls bytes (terminalAfter bytes t ss) more none .0);
+      stays = λ more. after-append bytes t ss more ∙ none-calls bytes (terminalAfter bytes t ss) more none .1;
+    }
+
+pub run-of-calls : RunOfCalls
+run-of-calls bytes whole ss = go (sitesFault (length ss)) refl
+  where
+    go : (b : Bool) → sitesFault (length ss) ≡ b → runOfCalls bytes whole ss ≡ sites bytes whole ss
+    go true e =
+        let no : OneToEight (length ss) → ⊥ = λ m. both-ways _ e (passes (length ss) m) in
+        ap (runBy bytes ss) (opened-turned (length ss) whole no) ∙ sym (sites-turned bytes whole ss no)
+    go false e =
+        let m = passing (length ss) e in
+        ap (runBy bytes ss) (opened-for (length ss) whole m) ∙ ap served (calls-opened bytes whole ss) ∙ sym (sites-served bytes whole ss m)
+
+-- the sum used is never more than the whole
+pub sum-with : (bytes : List ℕ) (whole : ℕ) (ss : List Site) → usedBy (servedWith bytes (whole / length ss) (whole % length ss) ss) ≤ whole
+sum-with bytes whole ss =
+    subst
+    (λ (rs : List Reply). usedBy rs ≤ whole)
+    (calls-opened bytes whole ss)
+    (all-within bytes (terminalOf whole (whole / length ss) (length ss)) ss)
