@@ -17,7 +17,7 @@ use Rattle.sites.specs.Sites.{Site, Reply, usedIn, replyTo, Replies.serv
 use Rattle.sites.specs.Demands.{Used, usedBy, Divided, unusedBy, allowanceAfter, Stands, EverySite, Singly, Passes, PassingOn, Sum, SameReply, OthersNoPart, CarryOver, PartBuys, Buying, Demands}
 use Rattle.sites.proofs.Serving.{used-within, servedWith, sites-served, served-are, Own, own-of, placed, twenty-one}
 use Rattle.sites.proofs.Calling.{opening, none-to-come, any-terminal, one-by-one, after-the-last, run-of-calls, sum-with}
-use Rattle.sites.proofs.Handing.{taking-opening, taking-sites}
+use Rattle.sites.proofs.Handing.{taking-opening, taking-sites, taking-all}
 use Rattle.sites.proofs.Examples.{examples}
 
 -- ---- allowances
@@ -174,5 +174,6 @@ demands =
       any-terminal = any-terminal;
       taking-opening = taking-opening;
       taking-sites = taking-sites;
+      taking-all = taking-all;
       examples = examples;
     }

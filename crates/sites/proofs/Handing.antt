@@ -1,10 +1,13 @@
 -- What the entry points leave, and what the exported functions hand over of it: the numbers and words have room for it, and a run of exported calls is one of the
 -- definition's.
 use mathlib.Core.Path.{_≡_, refl, sym, ap, ap₂, subst, subst⁻¹, _∙_}
+use mathlib.Core.Bool.{Bool, true, false}
 use mathlib.Core.Logic.{_≢_}
-use mathlib.Core.List.{List, [], _∷_}
+use mathlib.Core.List.{List, [], _∷_, map}
 use Prim.Native.Nat.{ℕ, zero, suc, _-_, _/_, _^_, _≤_, _<_}
 use native.Mathlib.Omega.{arith}
+use lib.ListN.{length}
+use Rattle.words.proofs.Truth.{both-ways}
 use Rattle.order.specs.Order.{Order}
 use Rattle.answer.specs.Packed.{packed, unpacked, Packable}
 use Rattle.answer.specs.declared.Answer.{Answer}
@@ -13,15 +16,16 @@ use Rattle.answer.proofs.Demands.{inverse}
 use Rattle.contract.specs.Filled.{Tables, lengths, Checked}
 use Rattle.contract.proofs.Asked.{branchings-within}
 use Rattle.contract.proofs.Demands as contract
-use Rattle.sites.specs.Sites.{Site, Reply, usedIn, replyTo}
-use Rattle.sites.specs.Terminal.{allowanceBefore, Left, call, calls, Opens, Serves}
+use Rattle.sites.specs.Sites.{Site, Reply, sitesFault, usedIn, replyTo, Replies.served, sites}
+use Rattle.sites.specs.Terminal.{allowanceBefore, Left, call, calls, runBy, Opens, Serves}
 use Rattle.sites.specs.Handed.{terminalOf, numberIn, placesIn, HandsOpening, HandsSite}
-use Rattle.sites.specs.Demands.{OneToEight, TakingOpening, TakingSites}
+use Rattle.sites.specs.Demands.{OneToEight, TakesOpening, TakingOpening, takenFrom, TakingSites, TakingAll}
 use Rattle.sites.specs.declared.Terminal.{Terminal}
 use Rattle.sites.specs.declared.Opening.{Opening}
 use Rattle.sites.specs.declared.Opening.the-variants.{Refused, Opened}
 use Rattle.sites.specs.declared.Served.{Served}
-use Rattle.sites.proofs.Calling.{opened-turned, opened-for, none-to-come, next-called, call-within}
+use Rattle.sites.proofs.Serving.{passing, passes}
+use Rattle.sites.proofs.Calling.{opened-turned, opened-for, none-to-come, next-called, call-within, run-of-calls}
 
 -- ---- opening
 
@@ -131,3 +135,23 @@ taking-sites bytes t (s ∷ ss) (x ∷ xs) h u =
     ap₂ (λ (r : Reply) (rs : List Reply). r ∷ rs)
     (ap₂ (λ (a : Answer) (y : Tables). record { answer = a; tables = y }) answer (one .tables))
     (taking-sites bytes (u .0) ss xs few (u .2) ∙ ap (λ (y : Terminal). calls bytes y ss) (one .terminal))
+
+pub taking-all : TakingAll
+taking-all bytes whole ss places t xs h o u = go (sitesFault k) refl
+  where
+    k : ℕ
+    k = length ss
+
+    opens : TakesOpening k whole places 0 t
+    opens = taking-opening k whole places 0 t o
+
+    go : (b : Bool) → sitesFault (length ss) ≡ b → sites bytes whole ss ≡ served (map takenFrom xs)
+    -- an opening that returns 0 is no refusal
+    go true e = let away = opens .refused (λ m. both-ways _ e (passes (length ss) m)) .0 in absurd (omega (arith, away))
+    go false e =
+        let m = passing (length ss) e in
+        let is : t ≡ terminalOf whole (whole / length ss) (length ss) = opens .taken m .1 in
+        let few : t .left < 2 ^ 32 = subst⁻¹ (λ (y : Terminal). y .left < 2 ^ 32) is h in
+        sym (run-of-calls bytes whole ss)
+        ∙ ap (runBy bytes ss) (opened-for (length ss) whole m)
+        ∙ ap served (ap (λ (y : Terminal). calls bytes y ss) (sym is) ∙ sym (taking-sites bytes t ss xs few u))

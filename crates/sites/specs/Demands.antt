@@ -225,11 +225,21 @@ HandedInTurn bytes t [] (x ∷ xs) = ⊥
 HandedInTurn bytes t (s ∷ ss) [] = ⊥
 HandedInTurn bytes t (s ∷ ss) (x ∷ xs) = (t′ : Terminal) × HandsSite bytes t (s .order) (s .tables) (x .word) t′ (x .tables) × HandedInTurn bytes t′ ss xs
 
--- what is taken out of their words, and found in the tables, is a run of calls: no number and no count is cut off, where the terminal's numbers have 32 bits
+-- what a caller takes out of the word, and finds in the tables
+abbrev pub takenFrom : Handed → Reply
+takenFrom x = record { answer = unpacked (x .word); tables = x .tables }
+
+-- so taken they are a run of calls: no number and no count is cut off, where what is left has 32 bits
 abbrev pub TakingSites : Type 0
 TakingSites =
     (bytes : List ℕ) (t : Terminal) (ss : List Site) (xs : List Handed) → t .left < 2 ^ 32 → HandedInTurn bytes t ss xs →
-    map (λ (x : Handed). record { answer = unpacked (x .word); tables = x .tables }) xs ≡ calls bytes t ss
+    map takenFrom xs ≡ calls bytes t ss
+
+-- and after an opening for as many sites, which returns 0, they are what the definition says of the whole list
+abbrev pub TakingAll : Type 0
+TakingAll =
+    (bytes : List ℕ) (whole : ℕ) (ss : List Site) (places t : Terminal) (xs : List Handed) → whole < 2 ^ 32 →
+    HandsOpening (length ss) whole places 0 t → HandedInTurn bytes t ss xs → sites bytes whole ss ≡ served (map takenFrom xs)
 
 -- ---- examples
 
@@ -300,4 +310,5 @@ pub record Demands : Type 0 where
   pub any-terminal : AnyTerminal
   pub taking-opening : TakingOpening
   pub taking-sites : TakingSites
+  pub taking-all : TakingAll
   pub examples : Examples
