@@ -125,7 +125,7 @@ bought bytes o allowance before a after asked r settled p =
 pub demanded :
     (bytes : List ℕ) (o : Order) (allowance : ℕ) (before : Tables) (a : Answer) (after : Tables) → Checked bytes o allowance before a after →
     (l : Lengths) → lengths before ≡ l → Demanded bytes o allowance l before a after
-demanded bytes o allowance before a after asked long same =
+demanded bytes o allowance before a after asked size same =
     let l : Lengths = lengths before in
     let r : Outcome = outcome bytes o allowance l in
     subst

@@ -2,19 +2,23 @@
 use mathlib.Core.Path.{_≡_, refl, sym, ap, ap₂, subst, subst⁻¹, _∙_}
 use mathlib.Core.Bool.{Bool, true, false}
 use mathlib.Core.List.{List, [], _∷_, _++_, map}
+use mathlib.Core.Logic.{_⊎_.inl, _⊎_.inr}
 use Prim.Native.Nat.{ℕ, zero, suc, _+_, _-_, _*_, _/_, _%_, _≤_}
 use native.Mathlib.Nat.{mul-suc, div-add-mod'}
 use native.Mathlib.Omega.{arith}
 use lib.ListN.{length}
 use Rattle.words.proofs.Truth.{both-ways, clash}
 use Rattle.answer.specs.declared.Answer.the-variants.{Refused as CheckRefused}
-use Rattle.sites.specs.Sites.{Site, Reply, sitesFault, usedIn, replyTo, Replies.served, sites}
-use Rattle.sites.specs.Terminal.{opened, allowanceBefore, Left, callWith, callBy, call, replyIn, calls, terminalAfter, runBy, runOfCalls}
+use Rattle.contract.specs.Filled.{lengths}
+use Rattle.contract.specs.Demands.{Named}
+use Rattle.contract.proofs.Demands as contract
+use Rattle.sites.specs.Sites.{Site, Reply, sitesFault, usedIn, replyTo, Replies.served}
+use Rattle.sites.specs.Terminal.{opened, allowanceBefore, Turn, callWith, callBy, call, replyIn, calls, terminalAfter}
 use Rattle.sites.specs.Handed.{terminalOf}
 use Rattle.sites.specs.Demands.{OneToEight, OpenedFor, OpenedOrRefused, usedBy, RunOfCalls, OneByOne, NoneToCome, AfterTheLast, CalledWith, AnyTerminal}
 use Rattle.sites.specs.declared.Terminal.{Terminal}
 use Rattle.sites.specs.declared.Opening.the-variants.{Refused, Opened}
-use Rattle.sites.proofs.Serving.{passing, passes, turned, used-within, servedWith, sites-turned, sites-served}
+use Rattle.sites.proofs.Serving.{passing, passes, turned, used-within, servedWith, sites-served}
 
 -- ---- opening
 
@@ -58,45 +62,59 @@ module _ (bytes : List ℕ) where
   unfolding call
   next-called t s later e = ap (callBy bytes t s) e
 
-  -- no call uses more than is left
-  pub call-within : (t : Terminal) (s : Site) → usedIn (call bytes t s .served .answer) + call bytes t s .served .terminal .left ≤ t .left
-  call-within t s = go (t .sites) refl
+  -- what a call uses and what it leaves are what was left
+  pub call-spent : (t : Terminal) (s : Site) → usedIn (call bytes t s .returned .answer) + call bytes t s .returned .terminal .left ≡ t .left
+  call-spent t s = go (t .sites) refl
     where
-      Within : Left → Type 0
-      Within x = usedIn (x .served .answer) + x .served .terminal .left ≤ t .left
+      Spent : Turn → Type 0
+      Spent x = usedIn (x .returned .answer) + x .returned .terminal .left ≡ t .left
 
-      go : (n : ℕ) → t .sites ≡ n → Within (call bytes t s)
-      go zero e = subst⁻¹ Within (none-to-come bytes t s e) (omega arith)
+      go : (n : ℕ) → t .sites ≡ n → Spent (call bytes t s)
+      go zero e = subst⁻¹ Spent (none-to-come bytes t s e) (omega arith)
       go (suc later) e =
           let few = used-within bytes (allowanceBefore t later) s in
-          subst⁻¹ Within (next-called t s later e) (omega (arith, few))
+          subst⁻¹ Spent (next-called t s later e) (omega (arith, few))
 
-  all-within : (t : Terminal) (ss : List Site) → usedBy (calls bytes t ss) ≤ t .left
-  all-within t [] = omega arith
-  all-within t (s ∷ ss) =
-      let one = call-within t s in
-      let rest = all-within (call bytes t s .served .terminal) ss in
+  all-spent : (t : Terminal) (ss : List Site) → usedBy (calls bytes t ss) + terminalAfter bytes t ss .left ≡ t .left
+  all-spent t [] = omega arith
+  all-spent t (s ∷ ss) =
+      let one = call-spent t s in
+      let rest = all-spent (call bytes t s .returned .terminal) ss in
       omega (arith, one, rest)
+
+-- no check is refused by 21
+unnamed : (bytes : List ℕ) (allowance : ℕ) (s : Site) → replyTo bytes allowance s .answer ≡ CheckRefused 21 → ⊥
+unfolding replyTo
+unnamed bytes allowance s e =
+    go (subst Named e (contract.demands .answers bytes (s .order) allowance (lengths (s .tables))))
+  where
+    go : Named (CheckRefused 21) → ⊥
+    go (inl x) = omega (arith, x .1)
+    go (inr x) = omega (arith, x)
 
 pub any-terminal : AnyTerminal
 unfolding replyTo
-any-terminal bytes t = record { one = one; all = all-within bytes t }
+any-terminal bytes t = record { one = one; turned = λ s. (λ e. none s (t .sites) refl e, λ e. ap (λ (x : Turn). x .returned .answer) (none-to-come bytes t s e)); all = all-spent bytes t }
   where
     one : (s : Site) (later : ℕ) → t .sites ≡ suc later → CalledWith bytes t s later (call bytes t s)
     one s later e =
         subst⁻¹ (CalledWith bytes t s later) (next-called bytes t s later e) (record { checked = record { answer = refl; tables = refl }; left = refl; part = refl; sites = refl })
 
+    none : (s : Site) (n : ℕ) → t .sites ≡ n → call bytes t s .returned .answer ≡ CheckRefused 21 → t .sites ≡ 0
+    none s zero e f = e
+    none s (suc later) e f = absurd (unnamed bytes (allowanceBefore t later) s (sym (ap (λ (x : Turn). x .returned .answer) (next-called bytes t s later e)) ∙ f))
+
 -- ---- a run of calls
 
 pub one-by-one : OneByOne
 one-by-one bytes t [] more = refl
-one-by-one bytes t (s ∷ ss) more = ap (λ (rs : List Reply). replyIn (call bytes t s) ∷ rs) (one-by-one bytes (call bytes t s .served .terminal) ss more)
+one-by-one bytes t (s ∷ ss) more = ap (λ (rs : List Reply). replyIn (call bytes t s) ∷ rs) (one-by-one bytes (call bytes t s .returned .terminal) ss more)
 
 module _ (bytes : List ℕ) where
   -- as many calls as sites to come leave none
   served-out : (t : Terminal) (ss : List Site) → t .sites ≡ length ss → terminalAfter bytes t ss .sites ≡ 0
   served-out t [] e = e
-  served-out t (s ∷ ss) e = served-out _ ss (ap (λ (x : Left). x .served .terminal .sites) (next-called bytes t s (length ss) e))
+  served-out t (s ∷ ss) e = served-out _ ss (ap (λ (x : Turn). x .returned .terminal .sites) (next-called bytes t s (length ss) e))
 
   -- calls where no site is to come
   abbrev away : Site → Reply
@@ -106,15 +124,15 @@ module _ (bytes : List ℕ) where
   none-calls t [] e = (refl, refl)
   none-calls t (s ∷ ss) e =
       let first = none-to-come bytes t s e in
-      let same : call bytes t s .served .terminal ≡ t = ap (λ (x : Left). x .served .terminal) first in
-      let rest = none-calls (call bytes t s .served .terminal) ss (ap (λ (x : Terminal). x .sites) same ∙ e) in (
+      let same : call bytes t s .returned .terminal ≡ t = ap (λ (x : Turn). x .returned .terminal) first in
+      let rest = none-calls (call bytes t s .returned .terminal) ss (ap (λ (x : Terminal). x .sites) same ∙ e) in (
         ap₂ (λ (r : Reply) (rs : List Reply). r ∷ rs) (ap replyIn first) (rest .0),
         rest .1 ∙ same,
       )
 
   after-append : (t : Terminal) (ss more : List Site) → terminalAfter bytes t (ss ++ more) ≡ terminalAfter bytes (terminalAfter bytes t ss) more
   after-append t [] more = refl
-  after-append t (s ∷ ss) more = after-append (call bytes t s .served .terminal) ss more
+  after-append t (s ∷ ss) more = after-append (call bytes t s .returned .terminal) ss more
 
   -- a run of calls, where what is left is what was left unused and the parts of the sites to come
   calls-with :
@@ -129,13 +147,13 @@ module _ (bytes : List ℕ) where
       let first : call bytes t s ≡ callWith bytes t s (part + unused) m = next-called bytes t s m e ∙ ap (λ (a : ℕ). callWith bytes t s a m) allowance in
       let used : ℕ = usedIn (replyTo bytes (part + unused) s .answer) in
       let few : used ≤ part + unused = used-within bytes (part + unused) s in
-      let next : Terminal = callWith bytes t s (part + unused) m .served .terminal in
+      let next : Terminal = callWith bytes t s (part + unused) m .returned .terminal in
       let left : next .left ≡ (part + unused - used) + part * m = omega (arith, g, more, few) in
-      ap (λ (x : Left). replyIn x ∷ calls bytes (x .served .terminal) ss) first
+      ap (λ (x : Turn). replyIn x ∷ calls bytes (x .returned .terminal) ss) first
       ∙ ap (λ (rs : List Reply). replyTo bytes (part + unused) s ∷ rs) (calls-with part (part + unused - used) next ss refl f left)
 
   -- calls with a terminal that was opened
-  pub calls-opened :
+  calls-opened :
       (whole : ℕ) (ss : List Site) →
       calls bytes (terminalOf whole (whole / length ss) (length ss)) ss ≡ servedWith bytes (whole / length ss) (whole % length ss) ss
   calls-opened whole ss =
@@ -143,9 +161,8 @@ module _ (bytes : List ℕ) where
       calls-with (whole / k) (whole % k) (terminalOf whole (whole / k) k) ss refl refl (omega (arith, div-add-mod' whole k))
 
 pub after-the-last : AfterTheLast
-after-the-last bytes whole t ss e =
-    let is = opening (length ss) whole .terminal t .0 e in
-    let none = served-out bytes t ss (ap (λ (x : Terminal). x .sites) (is .1)) in
+after-the-last bytes t ss e =
+    let none = served-out bytes t ss e in
     record {
       none-to-come = none;
       further =
@@ -156,20 +173,15 @@ after-the-last bytes whole t ss e =
     }
 
 pub run-of-calls : RunOfCalls
-run-of-calls bytes whole ss = go (sitesFault (length ss)) refl
-  where
-    go : (b : Bool) → sitesFault (length ss) ≡ b → runOfCalls bytes whole ss ≡ sites bytes whole ss
-    go true e =
-        let no : OneToEight (length ss) → ⊥ = λ m. both-ways _ e (passes (length ss) m) in
-        ap (runBy bytes ss) (opened-turned (length ss) whole no) ∙ sym (sites-turned bytes whole ss no)
-    go false e =
-        let m = passing (length ss) e in
-        ap (runBy bytes ss) (opened-for (length ss) whole m) ∙ ap served (calls-opened bytes whole ss) ∙ sym (sites-served bytes whole ss m)
+run-of-calls bytes whole ss t e =
+    let is = opening (length ss) whole .terminal t .0 e in
+    sites-served bytes whole ss (is .0) ∙ ap served (sym (calls-opened bytes whole ss)) ∙ ap (λ (x : Terminal). served (calls bytes x ss)) (sym (is .1))
 
 -- the sum used is never more than the whole
 pub sum-with : (bytes : List ℕ) (whole : ℕ) (ss : List Site) → usedBy (servedWith bytes (whole / length ss) (whole % length ss) ss) ≤ whole
 sum-with bytes whole ss =
+    let t : Terminal = terminalOf whole (whole / length ss) (length ss) in
     subst
     (λ (rs : List Reply). usedBy rs ≤ whole)
     (calls-opened bytes whole ss)
-    (all-within bytes (terminalOf whole (whole / length ss) (length ss)) ss)
+    (omega (arith, all-spent bytes t ss))

@@ -3,7 +3,7 @@
 use mathlib.Core.Path.{_≡_, refl, sym, ap, ap₂, subst⁻¹, _∙_}
 use mathlib.Core.List.{List, [], _∷_, _++_}
 use Prim.Native.Nat.{ℕ, suc, _+_, _-_, _*_, _/_, _%_, _≤_}
-use native.Mathlib.Nat.{mul-suc, div-add-mod', mod-lt}
+use native.Mathlib.Nat.{mul-zero, mul-suc, div-add-mod', mod-lt}
 use native.Mathlib.Omega.{arith}
 use lib.ListN.{length, length-append}
 use Rattle.order.specs.Order.{Order}
@@ -14,7 +14,7 @@ use Rattle.contract.specs.Demands.{firstPlaces}
 use Rattle.contract.proofs.Asked.{counted-same, refused-first, demanded}
 use Rattle.contract.proofs.Demands as contract
 use Rattle.sites.specs.Sites.{Site, Reply, usedIn, replyTo, Replies.served}
-use Rattle.sites.specs.Demands.{Used, usedBy, Divided, unusedBy, allowanceAfter, Stands, EverySite, Singly, Passes, PassingOn, Sum, SameReply, OthersNoPart, CarryOver, PartBuys, Buying, Demands}
+use Rattle.sites.specs.Demands.{Used, usedBy, Divided, FirstHas, unusedBy, allowanceAfter, Stands, EverySite, AskedWith, EachSingly, Sum, SameReply, OthersNoPart, CarryOver, PartBuys, Buying, Demands}
 use Rattle.sites.proofs.Serving.{used-within, servedWith, sites-served, served-are, Own, own-of, placed, twenty-one}
 use Rattle.sites.proofs.Calling.{opening, none-to-come, any-terminal, one-by-one, after-the-last, run-of-calls, sum-with}
 use Rattle.sites.proofs.Handing.{taking-opening, taking-sites, taking-all}
@@ -27,6 +27,9 @@ used c j = record { can = refl; cannot = refl; stopped = refl; refused = refl }
 
 pub divided : Divided
 divided whole k h = (sym (div-add-mod' whole k), mod-lt whole h)
+
+pub first-has : FirstHas
+first-has whole k = omega (arith, mul-zero (whole / k))
 
 -- ---- each site by itself
 
@@ -76,8 +79,8 @@ module _ (bytes : List ℕ) (whole : ℕ) (ss : List Site) (s : Site) (earlier :
   asked : Checked bytes (s .order) allowance (s .tables) (own .answer) (own .tables)
   asked = checked-by bytes allowance s own (own-is .reply)
 
-  passed-on : Passes whole k earlier own
-  passed-on =
+  asked-with : AskedWith bytes whole k s earlier own
+  asked-with =
       let cut : usedBy earlier ≤ whole / k * length earlier + whole % k = own-is .nothing-cut-off in
       let few : usedIn (own .answer) ≤ allowance =
       subst⁻¹ (λ (r : Reply). usedIn (r .answer) ≤ allowance) (own-is .reply) (used-within bytes allowance s)
@@ -87,6 +90,7 @@ module _ (bytes : List ℕ) (whole : ℕ) (ss : List Site) (s : Site) (earlier :
       let all = used-more earlier own in
       let rest : unusedBy whole k (earlier ++ (own ∷ [])) ≡ allowance - usedIn (own .answer) = omega (arith, cut, few, parts, all) in
       record {
+        singly = asked;
         nothing-cut-off = cut;
         at-least-part = omega arith;
         no-more = few;
@@ -102,11 +106,8 @@ module _ (bytes : List ℕ) (whole : ℕ) (ss : List Site) (s : Site) (earlier :
         always = λ n e f. d .always n (omega (arith, e)) f;
       }
 
-pub singly : Singly
-singly = asked
-
-pub passing-on : PassingOn
-passing-on = passed-on
+pub each-singly : EachSingly
+each-singly = asked-with
 
 pub buying : Buying
 buying = part-buys
@@ -160,9 +161,9 @@ demands =
       opening = opening;
       used = used;
       divided = divided;
+      first-has = first-has;
       every-site = every-site;
-      singly = singly;
-      passing-on = passing-on;
+      each-singly = each-singly;
       sum = sum;
       others-no-part = others-no-part;
       carry-over = carry-over;

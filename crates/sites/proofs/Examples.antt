@@ -23,4 +23,4 @@ unfolding
     check complete tablesFault firstRow above ruleRows bookRows orderRows admitRows bytesOf number wordAt wordsIn pair clausesIn flat encode
     minus meets firstOf lowest membersUpTo members ones onesIn vars keepers satisfied falsified names undecidedIn without undecided live
     allInactive monotone firstMonotone sweep unit swept falsifiedNaming enter covers resolvent join merge step search units finish searched run
-examples = record { five = refl; four = refl; eight = refl; nine = refl; none = refl }
+examples = record { five = refl; four = refl; parts-stay = refl; others-stop = refl; eight = refl; nine = refl; none = refl }

@@ -17,23 +17,23 @@ use Rattle.contract.specs.Filled.{Tables, lengths, Checked}
 use Rattle.contract.proofs.Asked.{branchings-within}
 use Rattle.contract.proofs.Demands as contract
 use Rattle.sites.specs.Sites.{Site, Reply, sitesFault, usedIn, replyTo, Replies.served, sites}
-use Rattle.sites.specs.Terminal.{allowanceBefore, Left, call, calls, runBy, Opens, Serves}
-use Rattle.sites.specs.Handed.{terminalOf, numberIn, placesIn, HandsOpening, HandsSite}
+use Rattle.sites.specs.Terminal.{allowanceBefore, Turn, call, calls, terminalAfter, Opens, Serves}
+use Rattle.sites.specs.Handed.{terminalOf, openingNumber, placesIn, HandsOpening, HandsSite}
 use Rattle.sites.specs.Demands.{OneToEight, TakesOpening, TakingOpening, takenFrom, TakingSites, TakingAll}
 use Rattle.sites.specs.declared.Terminal.{Terminal}
 use Rattle.sites.specs.declared.Opening.{Opening}
 use Rattle.sites.specs.declared.Opening.the-variants.{Refused, Opened}
 use Rattle.sites.specs.declared.Served.{Served}
 use Rattle.sites.proofs.Serving.{passing, passes}
-use Rattle.sites.proofs.Calling.{opened-turned, opened-for, none-to-come, next-called, call-within, run-of-calls}
+use Rattle.sites.proofs.Calling.{opened-turned, opened-for, none-to-come, next-called, call-spent, run-of-calls}
 
 -- ---- opening
 
 pub taking-opening : TakingOpening
 taking-opening k whole places r places′ h =
     record {
-      refused = λ n. let e = opened-turned k whole n in (h .number ∙ ap numberIn e, h .terminal ∙ ap (placesIn places) e);
-      taken = λ m. let e = opened-for k whole m in (h .number ∙ ap numberIn e, h .terminal ∙ ap (placesIn places) e);
+      refused = λ n. let e = opened-turned k whole n in (h .number ∙ ap openingNumber e, h .terminal ∙ ap (placesIn places) e);
+      taken = λ m. let e = opened-for k whole m in (h .number ∙ ap openingNumber e, h .terminal ∙ ap (placesIn places) e);
     }
 
 -- the two endings of opening
@@ -46,10 +46,10 @@ opens-opened k whole m = record { opening = sym (opened-for k whole m) }
 -- and what is handed over of them
 module _ (k whole : ℕ) (r : Opening) (h : Opens k whole r) (places : Terminal) where
   pub hands-refused : (j : ℕ) → r ≡ Refused j → HandsOpening k whole places j places
-  hands-refused j e = let is = sym e ∙ h .opening in record { number = ap numberIn is; terminal = ap (placesIn places) is }
+  hands-refused j e = let is = sym e ∙ h .opening in record { number = ap openingNumber is; terminal = ap (placesIn places) is }
 
   pub hands-opened : (t : Terminal) → r ≡ Opened t → HandsOpening k whole places 0 t
-  hands-opened t e = let is = sym e ∙ h .opening in record { number = ap numberIn is; terminal = ap (placesIn places) is }
+  hands-opened t e = let is = sym e ∙ h .opening in record { number = ap openingNumber is; terminal = ap (placesIn places) is }
 
 -- ---- a call
 
@@ -58,29 +58,29 @@ away-fits : Packable (CheckRefused 21)
 away-fits = record { number = omega arith; branchings = omega arith; derived = omega arith; records = omega arith }
 
 -- every answer to a call does, and a call leaves the part as it was
-call-fits : (bytes : List ℕ) (t : Terminal) (s : Site) → t .left < 2 ^ 32 → Packable (call bytes t s .served .answer)
+call-fits : (bytes : List ℕ) (t : Terminal) (s : Site) → t .left < 2 ^ 32 → Packable (call bytes t s .returned .answer)
 unfolding replyTo
 call-fits bytes t s h = go (t .sites) refl
   where
-    go : (n : ℕ) → t .sites ≡ n → Packable (call bytes t s .served .answer)
-    go zero e = subst⁻¹ (λ (x : Left). Packable (x .served .answer)) (none-to-come bytes t s e) away-fits
+    go : (n : ℕ) → t .sites ≡ n → Packable (call bytes t s .returned .answer)
+    go zero e = subst⁻¹ (λ (x : Turn). Packable (x .returned .answer)) (none-to-come bytes t s e) away-fits
     go (suc later) e =
         subst⁻¹
-        (λ (x : Left). Packable (x .served .answer))
+        (λ (x : Turn). Packable (x .returned .answer))
         (next-called bytes t s later e)
         (contract.demands .answers-fit bytes (s .order) (allowanceBefore t later) (lengths (s .tables)) (omega (arith, h)))
 
-call-part : (bytes : List ℕ) (t : Terminal) (s : Site) → call bytes t s .served .terminal .part ≡ t .part
+call-part : (bytes : List ℕ) (t : Terminal) (s : Site) → call bytes t s .returned .terminal .part ≡ t .part
 call-part bytes t s = go (t .sites) refl
   where
-    go : (n : ℕ) → t .sites ≡ n → call bytes t s .served .terminal .part ≡ t .part
-    go zero e = ap (λ (x : Left). x .served .terminal .part) (none-to-come bytes t s e)
-    go (suc later) e = ap (λ (x : Left). x .served .terminal .part) (next-called bytes t s later e)
+    go : (n : ℕ) → t .sites ≡ n → call bytes t s .returned .terminal .part ≡ t .part
+    go zero e = ap (λ (x : Turn). x .returned .terminal .part) (none-to-come bytes t s e)
+    go (suc later) e = ap (λ (x : Turn). x .returned .terminal .part) (next-called bytes t s later e)
 
 -- what a call leaves, by what the check was given
 module _ (bytes : List ℕ) (t : Terminal) (o : Order) (before : Tables) where
   pub serves-none : t .sites ≡ 0 → (r : Served) → r ≡ record { answer = CheckRefused 21; terminal = t } → Serves bytes t o before r before
-  serves-none e r f = record { left = ap (λ (x : Served). record { served = x; tables = before }) f ∙ sym (none-to-come bytes t (record { order = o; tables = before }) e) }
+  serves-none e r f = record { turn = ap (λ (x : Served). record { returned = x; tables = before }) f ∙ sym (none-to-come bytes t (record { order = o; tables = before }) e) }
 
   -- the next site is checked with its allowance
   module _ (some-left : t .sites ≢ 0) (allowance : ℕ) (is : allowance ≡ allowanceBefore t (t .sites - 1)) (a : Answer) (after : Tables) (c : Checked bytes o allowance before a after) where
@@ -95,13 +95,13 @@ module _ (bytes : List ℕ) (t : Terminal) (o : Order) (before : Tables) where
     unfolding replyTo
     serves-next r f =
         let next : t .sites ≡ suc (t .sites - 1) = omega (arith, some-left) in
-        let x : Answer → Tables → Left =
-        λ (b : Answer) (u : Tables). record { served = record { answer = b; terminal = record { left = t .left - usedIn b; part = t .part; sites = t .sites - 1 } }; tables = u }
+        let x : Answer → Tables → Turn =
+        λ (b : Answer) (u : Tables). record { returned = record { answer = b; terminal = record { left = t .left - usedIn b; part = t .part; sites = t .sites - 1 } }; tables = u }
         in
         let c′ = subst (λ (n : ℕ). Checked bytes o n before a after) is c in
         record {
-          left =
-              ap (λ (y : Served). record { served = y; tables = after }) f
+          turn =
+              ap (λ (y : Served). record { returned = y; tables = after }) f
               ∙ ap₂ x (c′ .answer) (c′ .tables)
               ∙ sym (next-called bytes t (record { order = o; tables = before }) (t .sites - 1) next);
         }
@@ -109,41 +109,40 @@ module _ (bytes : List ℕ) (t : Terminal) (o : Order) (before : Tables) where
   module _ (r : Served) (after : Tables) (h : Serves bytes t o before r after) where
     pub word-fits : t .left < 2 ^ 32 → Packable (r .answer)
     word-fits few =
-        subst⁻¹ Packable (ap (λ (x : Left). x .served .answer) (h .left)) (call-fits bytes t (record { order = o; tables = before }) few)
+        subst⁻¹ Packable (ap (λ (x : Turn). x .returned .answer) (h .turn)) (call-fits bytes t (record { order = o; tables = before }) few)
 
     pub hands-site : (w : ℕ) → w ≡ packed (r .answer) → HandsSite bytes t o before w (terminalOf (r .terminal .left) (t .part) (r .terminal .sites)) after
     hands-site w e =
-        let same : r .terminal ≡ call bytes t (record { order = o; tables = before }) .served .terminal = ap (λ (x : Left). x .served .terminal) (h .left) in
+        let same : r .terminal ≡ call bytes t (record { order = o; tables = before }) .returned .terminal = ap (λ (x : Turn). x .returned .terminal) (h .turn) in
         let part : t .part ≡ r .terminal .part = sym (ap (λ (x : Terminal). x .part) same ∙ call-part bytes t (record { order = o; tables = before })) in
         record {
-          word = e ∙ ap (λ (x : Left). packed (x .served .answer)) (h .left);
+          word = e ∙ ap (λ (x : Turn). packed (x .returned .answer)) (h .turn);
           terminal = ap (λ (p : ℕ). terminalOf (r .terminal .left) p (r .terminal .sites)) part ∙ same;
-          tables = ap (λ (x : Left). x .tables) (h .left);
+          tables = ap (λ (x : Turn). x .tables) (h .turn);
         }
 
 -- ---- a run of exported calls
 
 pub taking-sites : TakingSites
-taking-sites bytes t [] [] h u = refl
-taking-sites bytes t [] (x ∷ xs) h u = absurd u
-taking-sites bytes t (s ∷ ss) [] h u = absurd u
-taking-sites bytes t (s ∷ ss) (x ∷ xs) h u =
+taking-sites bytes t [] [] last h u = (refl, u)
+taking-sites bytes t [] (x ∷ xs) last h u = absurd u
+taking-sites bytes t (s ∷ ss) [] last h u = absurd u
+taking-sites bytes t (s ∷ ss) (x ∷ xs) last h u =
     let one = u .1 in
-    let next : Terminal = call bytes t s .served .terminal in
-    let few : u .0 .left < 2 ^ 32 = subst⁻¹ (λ (y : Terminal). y .left < 2 ^ 32) (one .terminal) (omega (arith, h, call-within bytes t s)) in
-    let answer : unpacked (x .word) ≡ call bytes t s .served .answer = ap unpacked (one .word) ∙ inverse _ (call-fits bytes t s h) in
-    ap₂ (λ (r : Reply) (rs : List Reply). r ∷ rs)
-    (ap₂ (λ (a : Answer) (y : Tables). record { answer = a; tables = y }) answer (one .tables))
-    (taking-sites bytes (u .0) ss xs few (u .2) ∙ ap (λ (y : Terminal). calls bytes y ss) (one .terminal))
+    let few : u .0 .left < 2 ^ 32 = subst⁻¹ (λ (y : Terminal). y .left < 2 ^ 32) (one .terminal) (omega (arith, h, call-spent bytes t s)) in
+    let answer : unpacked (x .word) ≡ call bytes t s .returned .answer = ap unpacked (one .word) ∙ inverse _ (call-fits bytes t s h) in
+    let rest = taking-sites bytes (u .0) ss xs last few (u .2) in (
+      ap₂ (λ (r : Reply) (rs : List Reply). r ∷ rs)
+          (ap₂ (λ (a : Answer) (y : Tables). record { answer = a; tables = y }) answer (one .tables))
+          (rest .0 ∙ ap (λ (y : Terminal). calls bytes y ss) (one .terminal)),
+      rest .1 ∙ ap (λ (y : Terminal). terminalAfter bytes y ss) (one .terminal),
+    )
 
 pub taking-all : TakingAll
-taking-all bytes whole ss places t xs h o u = go (sitesFault k) refl
+taking-all bytes whole ss places t last xs h o u = go (sitesFault (length ss)) refl
   where
-    k : ℕ
-    k = length ss
-
-    opens : TakesOpening k whole places 0 t
-    opens = taking-opening k whole places 0 t o
+    opens : TakesOpening (length ss) whole places 0 t
+    opens = taking-opening (length ss) whole places 0 t o
 
     go : (b : Bool) → sitesFault (length ss) ≡ b → sites bytes whole ss ≡ served (map takenFrom xs)
     -- an opening that returns 0 is no refusal
@@ -152,6 +151,4 @@ taking-all bytes whole ss places t xs h o u = go (sitesFault k) refl
         let m = passing (length ss) e in
         let is : t ≡ terminalOf whole (whole / length ss) (length ss) = opens .taken m .1 in
         let few : t .left < 2 ^ 32 = subst⁻¹ (λ (y : Terminal). y .left < 2 ^ 32) is h in
-        sym (run-of-calls bytes whole ss)
-        ∙ ap (runBy bytes ss) (opened-for (length ss) whole m)
-        ∙ ap served (ap (λ (y : Terminal). calls bytes y ss) (sym is) ∙ sym (taking-sites bytes t ss xs few u))
+        run-of-calls bytes whole ss t (opened-for (length ss) whole m ∙ ap Opened (sym is)) ∙ ap served (sym (taking-sites bytes t ss xs last few u .0))

@@ -43,7 +43,7 @@ module _ (bytes : List ℕ) where
   servedWith part unused (s ∷ ss) =
       let reply : Reply = replyTo bytes (part + unused) s in reply ∷ servedWith part (part + unused - usedIn (reply .answer)) ss
 
-  pub with-length : (part unused : ℕ) (ss : List Site) → length (servedWith part unused ss) ≡ length ss
+  with-length : (part unused : ℕ) (ss : List Site) → length (servedWith part unused ss) ≡ length ss
   with-length part unused [] = refl
   with-length part unused (s ∷ ss) = ap suc (with-length part _ ss)
 

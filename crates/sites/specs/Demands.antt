@@ -19,12 +19,12 @@ use Rattle.answer.specs.Packed.{unpacked}
 use Rattle.answer.specs.declared.Tally.{Tally}
 use Rattle.answer.specs.declared.Answer.{Answer}
 use Rattle.answer.specs.declared.Answer.the-variants.{Can, Cannot, Refused as CheckRefused, Stopped}
-use Rattle.contract.specs.Filled.{Tables, lent, lengths, Checked}
+use Rattle.contract.specs.Filled.{lent, lengths, Checked}
 use Rattle.contract.specs.Demands.{Permitted, checkConditions, firstPlaces, Fills, Tells, Settled, IsVerdict}
 use Rattle.contract.specs.Asked.{Demanded, RefusedFirst}
 use Rattle.sites.specs.Sites.{Site, Reply, usedIn, Replies.turnedAway, Replies.served, sites}
-use Rattle.sites.specs.Terminal.{opened, Left, call, calls, terminalAfter, runOfCalls}
-use Rattle.sites.specs.Handed.{terminalOf, HandsOpening, HandsSite}
+use Rattle.sites.specs.Terminal.{opened, Turn, call, calls, terminalAfter}
+use Rattle.sites.specs.Handed.{terminalOf, HandsOpening, Handed, HandedInTurn}
 use Rattle.sites.specs.declared.Terminal.{Terminal}
 use Rattle.sites.specs.declared.Opening.the-variants.{Refused, Opened}
 
@@ -43,7 +43,7 @@ pub record Turned (bytes : List ℕ) (whole : ℕ) (ss : List Site) : Type 0 whe
 abbrev pub TwentyOne : Type 0
 TwentyOne = (bytes : List ℕ) (whole : ℕ) (ss : List Site) → Turned bytes whole ss
 
--- a terminal is opened for 1 to 8 sites, and no table is lent for that
+-- a terminal is opened for 1 to 8 sites
 pub record OpenedFor (k whole : ℕ) : Type 0 where
   pub refused : (j : ℕ) → (opened k whole ≡ Refused j) ↔ ((j ≡ 21) × (OneToEight k → ⊥))
   pub terminal : (t : Terminal) → (opened k whole ≡ Opened t) ↔ (OneToEight k × (t ≡ terminalOf whole (whole / k) k))
@@ -72,13 +72,17 @@ usedBy (r ∷ rs) = usedIn (r .answer) + usedBy rs
 abbrev pub Divided : Type 0
 Divided = (whole k : ℕ) → 1 ≤ k → (whole ≡ whole / k * k + whole % k) × (whole % k < k)
 
--- what the sites that were given these replies, the first of k, left unused: their parts and the remainder, less what they used
+-- what the first sites of k left unused, where they were given these replies: their parts and the remainder, less what they used
 abbrev pub unusedBy : ℕ → ℕ → List Reply → ℕ
 unusedBy whole k earlier = (whole / k * length earlier + whole % k) - usedBy earlier
 
--- the allowance of the site after them: its part, and what they left unused. The first site's is its part and the remainder
+-- the allowance of the site after them: its part, and what they left unused
 abbrev pub allowanceAfter : ℕ → ℕ → List Reply → ℕ
 allowanceAfter whole k earlier = whole / k + unusedBy whole k earlier
+
+-- the remainder goes to the first
+abbrev pub FirstHas : Type 0
+FirstHas = (whole k : ℕ) → allowanceAfter whole k [] ≡ whole / k + whole % k
 
 -- ---- each site by itself
 
@@ -97,25 +101,21 @@ EverySite =
     (bytes : List ℕ) (whole : ℕ) (before after : List Site) (s : Site) → OneToEight (length (before ++ (s ∷ after))) →
     (earlier : List Reply) × (own : Reply) × Stands bytes whole (before ++ (s ∷ after)) s earlier own
 
--- the answer and the tables are those of the order asked singly with that allowance (`Checked`)
-abbrev pub Singly : Type 0
-Singly =
-    (bytes : List ℕ) (whole : ℕ) (ss : List Site) (s : Site) (earlier : List Reply) (own : Reply) → Stands bytes whole ss s earlier own →
-    Checked bytes (s .order) (allowanceAfter whole (length ss) earlier) (s .tables) (own .answer) (own .tables)
-
--- its allowance is no less than its part, and it uses no more than that allowance. What it leaves passes on; all of it where it is refused
-pub record Passes (whole k : ℕ) (earlier : List Reply) (own : Reply) : Type 0 where
-  -- those before it used no more than their parts and the remainder
-  pub nothing-cut-off : usedBy earlier ≤ whole / k * length earlier + whole % k
+-- the site's allowance is its part and what was left unused before it: its answer and its tables are those of the order asked singly with that (`Checked`). So it is no
+-- less than its part. What the site leaves of it passes on; all of it where the site is refused
+pub record AskedWith (bytes : List ℕ) (whole k : ℕ) (s : Site) (earlier : List Reply) (own : Reply) : Type 0 where
+  pub singly : Checked bytes (s .order) (allowanceAfter whole k earlier) (s .tables) (own .answer) (own .tables)
   pub at-least-part : whole / k ≤ allowanceAfter whole k earlier
   pub no-more : usedIn (own .answer) ≤ allowanceAfter whole k earlier
   pub rest : unusedBy whole k (earlier ++ (own ∷ [])) ≡ allowanceAfter whole k earlier - usedIn (own .answer)
   pub refused : (j : ℕ) → own .answer ≡ CheckRefused j → unusedBy whole k (earlier ++ (own ∷ [])) ≡ allowanceAfter whole k earlier
+  -- those before it used no more than their parts and the remainder: `unusedBy` cuts nothing off
+  pub nothing-cut-off : usedBy earlier ≤ whole / k * length earlier + whole % k
 
-abbrev pub PassingOn : Type 0
-PassingOn =
+abbrev pub EachSingly : Type 0
+EachSingly =
     (bytes : List ℕ) (whole : ℕ) (ss : List Site) (s : Site) (earlier : List Reply) (own : Reply) → Stands bytes whole ss s earlier own →
-    Passes whole (length ss) earlier own
+    AskedWith bytes whole (length ss) s earlier own
 
 -- the sum used is never more than the whole
 abbrev pub Sum : Type 0
@@ -145,7 +145,8 @@ CarryOver =
     Demanded bytes (s .order) (allowanceAfter whole (length ss) earlier) (lengths (s .tables)) (s .tables) (own .answer) (own .tables)
     × RefusedFirst bytes (s .order) (lengths (s .tables)) (s .tables) (own .answer) (own .tables)
 
--- what a part buys, whatever the other sites do: where a part and the places are enough for the outcome r, it is this outcome; and a part of 2^n - 1 is always enough
+-- what a part buys, whatever the other sites do: where a part and the places are enough for the outcome r, it is this outcome; and a part of 2^n - 1 with as many places is
+-- always enough
 pub record PartBuys (bytes : List ℕ) (part : ℕ) (s : Site) (own : Reply) : Type 0 where
   pub enough :
       (r : Outcome) → Settled bytes (s .order) r → Permitted (lengths (s .tables)) → Enough r part (length (s .tables .pos)) →
@@ -163,7 +164,8 @@ Buying =
 
 -- a run of calls gives what the definition says
 abbrev pub RunOfCalls : Type 0
-RunOfCalls = (bytes : List ℕ) (whole : ℕ) (ss : List Site) → runOfCalls bytes whole ss ≡ sites bytes whole ss
+RunOfCalls =
+    (bytes : List ℕ) (whole : ℕ) (ss : List Site) (t : Terminal) → opened (length ss) whole ≡ Opened t → sites bytes whole ss ≡ served (calls bytes t ss)
 
 -- what was served does not depend on the sites that call later
 abbrev pub OneByOne : Type 0
@@ -174,7 +176,7 @@ OneByOne =
 abbrev pub NoneToCome : Type 0
 NoneToCome =
     (bytes : List ℕ) (t : Terminal) (s : Site) → t .sites ≡ 0 →
-    call bytes t s ≡ record { served = record { answer = CheckRefused 21; terminal = t }; tables = s .tables }
+    call bytes t s ≡ record { returned = record { answer = CheckRefused 21; terminal = t }; tables = s .tables }
 
 -- so it is with every call after the last site that a terminal was opened for
 pub record ServedOut (bytes : List ℕ) (t : Terminal) (ss : List Site) : Type 0 where
@@ -185,20 +187,20 @@ pub record ServedOut (bytes : List ℕ) (t : Terminal) (ss : List Site) : Type 0
   pub stays : (more : List Site) → terminalAfter bytes t (ss ++ more) ≡ terminalAfter bytes t ss
 
 abbrev pub AfterTheLast : Type 0
-AfterTheLast =
-    (bytes : List ℕ) (whole : ℕ) (t : Terminal) (ss : List Site) → opened (length ss) whole ≡ Opened t → ServedOut bytes t ss
+AfterTheLast = (bytes : List ℕ) (t : Terminal) (ss : List Site) → t .sites ≡ length ss → ServedOut bytes t ss
 
 -- any three numbers are a terminal. The site's allowance is what is left but for the parts of the sites after it, and nothing where their parts are more than is left
-pub record CalledWith (bytes : List ℕ) (t : Terminal) (s : Site) (later : ℕ) (x : Left) : Type 0 where
-  pub checked : Checked bytes (s .order) (t .left - t .part * later) (s .tables) (x .served .answer) (x .tables)
-  pub left : x .served .terminal .left ≡ t .left - usedIn (x .served .answer)
-  pub part : x .served .terminal .part ≡ t .part
-  pub sites : x .served .terminal .sites ≡ later
+pub record CalledWith (bytes : List ℕ) (t : Terminal) (s : Site) (later : ℕ) (x : Turn) : Type 0 where
+  pub checked : Checked bytes (s .order) (t .left - t .part * later) (s .tables) (x .returned .answer) (x .tables)
+  pub left : x .returned .terminal .left ≡ t .left - usedIn (x .returned .answer)
+  pub part : x .returned .terminal .part ≡ t .part
+  pub sites : x .returned .terminal .sites ≡ later
 
 -- and no run of calls uses more than what was left
 pub record AnyThree (bytes : List ℕ) (t : Terminal) : Type 0 where
   pub one : (s : Site) (later : ℕ) → t .sites ≡ suc later → CalledWith bytes t s later (call bytes t s)
-  pub all : (ss : List Site) → usedBy (calls bytes t ss) ≤ t .left
+  pub turned : (s : Site) → (call bytes t s .returned .answer ≡ CheckRefused 21) ↔ (t .sites ≡ 0)
+  pub all : (ss : List Site) → usedBy (calls bytes t ss) + terminalAfter bytes t ss .left ≡ t .left
 
 abbrev pub AnyTerminal : Type 0
 AnyTerminal = (bytes : List ℕ) (t : Terminal) → AnyThree bytes t
@@ -213,18 +215,6 @@ pub record TakesOpening (k whole : ℕ) (places : Terminal) (r : ℕ) (places′
 abbrev pub TakingOpening : Type 0
 TakingOpening = (k whole : ℕ) (places : Terminal) (r : ℕ) (places′ : Terminal) → HandsOpening k whole places r places′ → TakesOpening k whole places r places′
 
--- what one call hands over
-pub record Handed : Type 0 where
-  pub word : ℕ
-  pub tables : Tables
-
--- exported calls, one a site, each given the terminal that the one before it left in the caller's places
-abbrev pub HandedInTurn : List ℕ → Terminal → List Site → List Handed → Type 0
-HandedInTurn bytes t [] [] = Unit {0}
-HandedInTurn bytes t [] (x ∷ xs) = ⊥
-HandedInTurn bytes t (s ∷ ss) [] = ⊥
-HandedInTurn bytes t (s ∷ ss) (x ∷ xs) = (t′ : Terminal) × HandsSite bytes t (s .order) (s .tables) (x .word) t′ (x .tables) × HandedInTurn bytes t′ ss xs
-
 -- what a caller takes out of the word, and finds in the tables
 abbrev pub takenFrom : Handed → Reply
 takenFrom x = record { answer = unpacked (x .word); tables = x .tables }
@@ -232,14 +222,14 @@ takenFrom x = record { answer = unpacked (x .word); tables = x .tables }
 -- so taken they are a run of calls: no number and no count is cut off, where what is left has 32 bits
 abbrev pub TakingSites : Type 0
 TakingSites =
-    (bytes : List ℕ) (t : Terminal) (ss : List Site) (xs : List Handed) → t .left < 2 ^ 32 → HandedInTurn bytes t ss xs →
-    map takenFrom xs ≡ calls bytes t ss
+    (bytes : List ℕ) (t : Terminal) (ss : List Site) (xs : List Handed) (last : Terminal) → t .left < 2 ^ 32 → HandedInTurn bytes t ss xs last →
+    (map takenFrom xs ≡ calls bytes t ss) × (last ≡ terminalAfter bytes t ss)
 
 -- and after an opening for as many sites, which returns 0, they are what the definition says of the whole list
 abbrev pub TakingAll : Type 0
 TakingAll =
-    (bytes : List ℕ) (whole : ℕ) (ss : List Site) (places t : Terminal) (xs : List Handed) → whole < 2 ^ 32 →
-    HandsOpening (length ss) whole places 0 t → HandedInTurn bytes t ss xs → sites bytes whole ss ≡ served (map takenFrom xs)
+    (bytes : List ℕ) (whole : ℕ) (ss : List Site) (places t last : Terminal) (xs : List Handed) → whole < 2 ^ 32 →
+    HandsOpening (length ss) whole places 0 t → HandedInTurn bytes t ss xs last → sites bytes whole ss ≡ served (map takenFrom xs)
 
 -- ---- examples
 
@@ -283,6 +273,22 @@ pub record Examples : Type 0 where
       ∷ givenWith (Can (tally 1 0 2)) [] [] (1 ∷ 1 ∷ []) (0 ∷ 0 ∷ []) (4 ∷ 6 ∷ []) 4 7
       ∷ givenWith (Cannot (tally 2 2 1)) (0 ∷ 0 ∷ []) (2 ∷ 0 ∷ []) (0 ∷ []) (0 ∷ []) (7 ∷ []) 5 6
       ∷ [])
+  -- 4 by 3. The first is refused, and the second has 1 and the 2 that the first had, all of which it uses; the last has its part as at the beginning, of 1
+  pub parts-stay :
+      sites threeRules 4 (siteWith (order 8 0 0) 2 9 ∷ siteWith (order 7 0 0) 3 8 ∷ siteWith (order 0 0 0) 4 7 ∷ []) ≡
+      served
+      (givenWith (CheckRefused 7) [] [] [] [] [] 2 9
+      ∷ givenWith (Cannot (tally 3 3 1)) (0 ∷ 0 ∷ 0 ∷ []) (4 ∷ 1 ∷ 0 ∷ []) (0 ∷ []) (0 ∷ []) (7 ∷ []) 3 8
+      ∷ givenWith (Can (tally 1 0 2)) [] [] (1 ∷ 1 ∷ []) (0 ∷ 0 ∷ []) (4 ∷ 6 ∷ []) 4 7
+      ∷ [])
+  -- 3 by 3. All others stop, and the last has its part
+  pub others-stop :
+      sites threeRules 3 (siteWith (order 7 0 0) 2 9 ∷ siteWith (order 7 0 0) 3 8 ∷ siteWith (order 0 0 0) 4 7 ∷ []) ≡
+      served
+      (givenWith (Stopped 10 (tally 1 0 0)) [] [] [] [] [] 2 9
+      ∷ givenWith (Stopped 10 (tally 1 0 0)) [] [] [] [] [] 3 8
+      ∷ givenWith (Can (tally 1 0 2)) [] [] (1 ∷ 1 ∷ []) (0 ∷ 0 ∷ []) (4 ∷ 6 ∷ []) 4 7
+      ∷ [])
   -- eight sites and none of their bytes a book; nine, and none at all
   pub eight : sites [] 20 (replicate 8 (siteWith (order 0 0 0) 0 5)) ≡ served (replicate 8 (givenWith (CheckRefused 1) [] [] [] [] [] 0 5))
   pub nine : sites threeRules 1000 (replicate 9 (siteWith (order 0 0 0) 0 5)) ≡ turnedAway 21
@@ -296,9 +302,9 @@ pub record Demands : Type 0 where
   pub opening : OpenedOrRefused
   pub used : Used
   pub divided : Divided
+  pub first-has : FirstHas
   pub every-site : EverySite
-  pub singly : Singly
-  pub passing-on : PassingOn
+  pub each-singly : EachSingly
   pub sum : Sum
   pub others-no-part : OthersNoPart
   pub carry-over : CarryOver

@@ -3,11 +3,10 @@ use mathlib.Core.Path.{_≡_}
 use mathlib.Core.Bool.{true, false}
 use mathlib.Core.List.{List, [], _∷_}
 use Prim.Native.Nat.{ℕ, zero, suc, _-_, _*_, _/_}
-use lib.ListN.{length}
 use Rattle.order.specs.Order.{Order}
 use Rattle.answer.specs.declared.Answer.the-variants.{Refused as CheckRefused}
 use Rattle.contract.specs.Filled.{Tables}
-use Rattle.sites.specs.Sites.{Site, Reply, sitesFault, usedIn, replyTo, Replies, Replies.turnedAway, Replies.served}
+use Rattle.sites.specs.Sites.{Site, Reply, sitesFault, usedIn, replyTo}
 use Rattle.sites.specs.declared.Terminal.{Terminal}
 use Rattle.sites.specs.declared.Opening.{Opening}
 use Rattle.sites.specs.declared.Opening.the-variants.{Refused, Opened}
@@ -25,52 +24,44 @@ opened k whole =
 abbrev pub allowanceBefore : Terminal → ℕ → ℕ
 allowanceBefore t later = t .left - t .part * later
 
--- what is left of a call: what it returns, and the site's tables
-pub record Left : Type 0 where
-  pub served : Served
+-- a site's turn: what the call returns, and the site's tables as it leaves them
+pub record Turn : Type 0 where
+  pub returned : Served
   pub tables : Tables
 
 -- the call for a site with this allowance, after which so many come
-abbrev pub callWith : List ℕ → Terminal → Site → ℕ → ℕ → Left
+abbrev pub callWith : List ℕ → Terminal → Site → ℕ → ℕ → Turn
 callWith bytes t s allowance later =
     let reply : Reply = replyTo bytes allowance s in
     record {
-      served = record { answer = reply .answer; terminal = record { left = t .left - usedIn (reply .answer); part = t .part; sites = later } };
+      returned = record { answer = reply .answer; terminal = record { left = t .left - usedIn (reply .answer); part = t .part; sites = later } };
       tables = reply .tables;
     }
 
 -- by how many sites are to come
-abbrev pub callBy : List ℕ → Terminal → Site → ℕ → Left
-callBy bytes t s zero = record { served = record { answer = CheckRefused 21; terminal = t }; tables = s .tables }
+abbrev pub callBy : List ℕ → Terminal → Site → ℕ → Turn
+callBy bytes t s zero = record { returned = record { answer = CheckRefused 21; terminal = t }; tables = s .tables }
 callBy bytes t s (suc later) = callWith bytes t s (allowanceBefore t later) later
 
 -- a call: the next site is served, or it is refused where none is to come
-unfoldable pub call : List ℕ → Terminal → Site → Left
+unfoldable pub call : List ℕ → Terminal → Site → Turn
 call bytes t s = callBy bytes t s (t .sites)
 
 -- ---- a run of calls
 
 -- what a site is given by a call
-abbrev pub replyIn : Left → Reply
-replyIn x = record { answer = x .served .answer; tables = x .tables }
+abbrev pub replyIn : Turn → Reply
+replyIn x = record { answer = x .returned .answer; tables = x .tables }
 
 -- one call a site, each with the terminal that the one before it returned
 abbrev pub calls : List ℕ → Terminal → List Site → List Reply
 calls bytes t [] = []
-calls bytes t (s ∷ ss) = replyIn (call bytes t s) ∷ calls bytes (call bytes t s .served .terminal) ss
+calls bytes t (s ∷ ss) = replyIn (call bytes t s) ∷ calls bytes (call bytes t s .returned .terminal) ss
 
 -- the terminal after them
 abbrev pub terminalAfter : List ℕ → Terminal → List Site → Terminal
 terminalAfter bytes t [] = t
-terminalAfter bytes t (s ∷ ss) = terminalAfter bytes (call bytes t s .served .terminal) ss
-
--- a terminal is opened for as many sites as there are, and they call in turn
-abbrev pub runBy : List ℕ → List Site → Opening → Replies
-runBy bytes ss (Refused k) = turnedAway k
-runBy bytes ss (Opened t) = served (calls bytes t ss)
-
-abbrev pub runOfCalls : List ℕ → ℕ → List Site → Replies
-runOfCalls bytes whole ss = runBy bytes ss (opened (length ss) whole)
+terminalAfter bytes t (s ∷ ss) = terminalAfter bytes (call bytes t s .returned .terminal) ss
 
 -- ---- what the entry points promise
 
@@ -80,4 +71,4 @@ pub record Opens (k whole : ℕ) (r : Opening) : Type 0 where
 
 -- a call: the answer, the terminal for the next site and all five tables are those of the definition
 pub record Serves (bytes : List ℕ) (t : Terminal) (o : Order) (before : Tables) (r : Served) (after : Tables) : Type 0 where
-  pub left : record { served = r; tables = after } ≡ call bytes t (record { order = o; tables = before })
+  pub turn : record { returned = r; tables = after } ≡ call bytes t (record { order = o; tables = before })

@@ -1,6 +1,6 @@
 -- `terminal::after` meets its contract: what is left is less by the branchings of the answer. Assumes nothing.
 use mathlib.Core.Path.{_≡_, ap}
-use Prim.Native.Nat.{ℕ, _-_, _≤_}
+use Prim.Native.Nat.{_-_}
 use native.Mathlib.Omega.{arith}
 use Rattle.answer.specs.declared.Tally.{Tally}
 use Rattle.sites.specs.Sites.{usedIn}
