@@ -62,18 +62,23 @@ module _ (bytes : List ℕ) where
   unfolding call
   next-called t s later e = ap (callBy bytes t s) e
 
+  -- what holds however a call ends holds of it
+  pub by-ending :
+      (t : Terminal) (s : Site) (P : Turn → Type 0) →
+      (t .sites ≡ 0 → P (record { returned = record { answer = CheckRefused 21; terminal = t }; tables = s .tables })) →
+      ((later : ℕ) → t .sites ≡ suc later → P (callWith bytes t s (allowanceBefore t later) later)) → P (call bytes t s)
+  by-ending t s P none next = go (t .sites) refl
+    where
+      go : (n : ℕ) → t .sites ≡ n → P (call bytes t s)
+      go zero e = subst⁻¹ P (none-to-come bytes t s e) (none e)
+      go (suc later) e = subst⁻¹ P (next-called t s later e) (next later e)
+
   -- what a call uses and what it leaves are what was left
   pub call-spent : (t : Terminal) (s : Site) → usedIn (call bytes t s .returned .answer) + call bytes t s .returned .terminal .left ≡ t .left
-  call-spent t s = go (t .sites) refl
-    where
-      Spent : Turn → Type 0
-      Spent x = usedIn (x .returned .answer) + x .returned .terminal .left ≡ t .left
-
-      go : (n : ℕ) → t .sites ≡ n → Spent (call bytes t s)
-      go zero e = subst⁻¹ Spent (none-to-come bytes t s e) (omega arith)
-      go (suc later) e =
-          let few = used-within bytes (allowanceBefore t later) s in
-          subst⁻¹ Spent (next-called t s later e) (omega (arith, few))
+  call-spent t s =
+      by-ending t s (λ (x : Turn). usedIn (x .returned .answer) + x .returned .terminal .left ≡ t .left)
+      (λ e. omega arith)
+      (λ later e. let few = used-within bytes (allowanceBefore t later) s in omega (arith, few))
 
   all-spent : (t : Terminal) (ss : List Site) → usedBy (calls bytes t ss) + terminalAfter bytes t ss .left ≡ t .left
   all-spent t [] = omega arith
@@ -83,9 +88,9 @@ module _ (bytes : List ℕ) where
       omega (arith, one, rest)
 
 -- no check is refused by 21
-unnamed : (bytes : List ℕ) (allowance : ℕ) (s : Site) → replyTo bytes allowance s .answer ≡ CheckRefused 21 → ⊥
+never-away : (bytes : List ℕ) (allowance : ℕ) (s : Site) → replyTo bytes allowance s .answer ≡ CheckRefused 21 → ⊥
 unfolding replyTo
-unnamed bytes allowance s e =
+never-away bytes allowance s e =
     go (subst Named e (contract.demands .answers bytes (s .order) allowance (lengths (s .tables))))
   where
     go : Named (CheckRefused 21) → ⊥
@@ -94,15 +99,18 @@ unnamed bytes allowance s e =
 
 pub any-terminal : AnyTerminal
 unfolding replyTo
-any-terminal bytes t = record { one = one; turned = λ s. (λ e. none s (t .sites) refl e, λ e. ap (λ (x : Turn). x .returned .answer) (none-to-come bytes t s e)); all = all-spent bytes t }
+any-terminal bytes t =
+    record { one = one; turned = λ s. (none s, λ e. ap (λ (x : Turn). x .returned .answer) (none-to-come bytes t s e)); all = all-spent bytes t }
   where
     one : (s : Site) (later : ℕ) → t .sites ≡ suc later → CalledWith bytes t s later (call bytes t s)
     one s later e =
         subst⁻¹ (CalledWith bytes t s later) (next-called bytes t s later e) (record { checked = record { answer = refl; tables = refl }; left = refl; part = refl; sites = refl })
 
-    none : (s : Site) (n : ℕ) → t .sites ≡ n → call bytes t s .returned .answer ≡ CheckRefused 21 → t .sites ≡ 0
-    none s zero e f = e
-    none s (suc later) e f = absurd (unnamed bytes (allowanceBefore t later) s (sym (ap (λ (x : Turn). x .returned .answer) (next-called bytes t s later e)) ∙ f))
+    none : (s : Site) → call bytes t s .returned .answer ≡ CheckRefused 21 → t .sites ≡ 0
+    none s =
+        by-ending bytes t s (λ (x : Turn). x .returned .answer ≡ CheckRefused 21 → t .sites ≡ 0)
+        (λ e f. e)
+        (λ later e f. absurd (never-away bytes (allowanceBefore t later) s f))
 
 -- ---- a run of calls
 

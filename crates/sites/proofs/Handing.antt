@@ -4,7 +4,7 @@ use mathlib.Core.Path.{_≡_, refl, sym, ap, ap₂, subst, subst⁻¹, _∙_}
 use mathlib.Core.Bool.{Bool, true, false}
 use mathlib.Core.Logic.{_≢_}
 use mathlib.Core.List.{List, [], _∷_, map}
-use Prim.Native.Nat.{ℕ, zero, suc, _-_, _/_, _^_, _≤_, _<_}
+use Prim.Native.Nat.{ℕ, suc, _-_, _/_, _^_, _≤_, _<_}
 use native.Mathlib.Omega.{arith}
 use lib.ListN.{length}
 use Rattle.words.proofs.Truth.{both-ways}
@@ -25,7 +25,7 @@ use Rattle.sites.specs.declared.Opening.{Opening}
 use Rattle.sites.specs.declared.Opening.the-variants.{Refused, Opened}
 use Rattle.sites.specs.declared.Served.{Served}
 use Rattle.sites.proofs.Serving.{passing, passes}
-use Rattle.sites.proofs.Calling.{opened-turned, opened-for, none-to-come, next-called, call-spent, run-of-calls}
+use Rattle.sites.proofs.Calling.{opened-turned, opened-for, none-to-come, next-called, by-ending, call-spent, run-of-calls}
 
 -- ---- opening
 
@@ -44,12 +44,9 @@ pub opens-opened : (k whole : ℕ) → OneToEight k → Opens k whole (Opened (t
 opens-opened k whole m = record { opening = sym (opened-for k whole m) }
 
 -- and what is handed over of them
-module _ (k whole : ℕ) (r : Opening) (h : Opens k whole r) (places : Terminal) where
-  pub hands-refused : (j : ℕ) → r ≡ Refused j → HandsOpening k whole places j places
-  hands-refused j e = let is = sym e ∙ h .opening in record { number = ap openingNumber is; terminal = ap (placesIn places) is }
-
-  pub hands-opened : (t : Terminal) → r ≡ Opened t → HandsOpening k whole places 0 t
-  hands-opened t e = let is = sym e ∙ h .opening in record { number = ap openingNumber is; terminal = ap (placesIn places) is }
+pub hands-opening :
+    (k whole : ℕ) (r x : Opening) (places : Terminal) → Opens k whole r → r ≡ x → HandsOpening k whole places (openingNumber x) (placesIn places x)
+hands-opening k whole r x places h e = let is = sym e ∙ h .opening in record { number = ap openingNumber is; terminal = ap (placesIn places) is }
 
 -- ---- a call
 
@@ -60,22 +57,13 @@ away-fits = record { number = omega arith; branchings = omega arith; derived = o
 -- every answer to a call does, and a call leaves the part as it was
 call-fits : (bytes : List ℕ) (t : Terminal) (s : Site) → t .left < 2 ^ 32 → Packable (call bytes t s .returned .answer)
 unfolding replyTo
-call-fits bytes t s h = go (t .sites) refl
-  where
-    go : (n : ℕ) → t .sites ≡ n → Packable (call bytes t s .returned .answer)
-    go zero e = subst⁻¹ (λ (x : Turn). Packable (x .returned .answer)) (none-to-come bytes t s e) away-fits
-    go (suc later) e =
-        subst⁻¹
-        (λ (x : Turn). Packable (x .returned .answer))
-        (next-called bytes t s later e)
-        (contract.demands .answers-fit bytes (s .order) (allowanceBefore t later) (lengths (s .tables)) (omega (arith, h)))
+call-fits bytes t s h =
+    by-ending bytes t s (λ (x : Turn). Packable (x .returned .answer))
+    (λ e. away-fits)
+    (λ later e. contract.demands .answers-fit bytes (s .order) (allowanceBefore t later) (lengths (s .tables)) (omega (arith, h)))
 
 call-part : (bytes : List ℕ) (t : Terminal) (s : Site) → call bytes t s .returned .terminal .part ≡ t .part
-call-part bytes t s = go (t .sites) refl
-  where
-    go : (n : ℕ) → t .sites ≡ n → call bytes t s .returned .terminal .part ≡ t .part
-    go zero e = ap (λ (x : Turn). x .returned .terminal .part) (none-to-come bytes t s e)
-    go (suc later) e = ap (λ (x : Turn). x .returned .terminal .part) (next-called bytes t s later e)
+call-part bytes t s = by-ending bytes t s (λ (x : Turn). x .returned .terminal .part ≡ t .part) (λ e. refl) (λ later e. refl)
 
 -- what a call leaves, by what the check was given
 module _ (bytes : List ℕ) (t : Terminal) (o : Order) (before : Tables) where

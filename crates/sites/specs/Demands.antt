@@ -178,7 +178,7 @@ NoneToCome =
     (bytes : List ℕ) (t : Terminal) (s : Site) → t .sites ≡ 0 →
     call bytes t s ≡ record { returned = record { answer = CheckRefused 21; terminal = t }; tables = s .tables }
 
--- so it is with every call after the last site that a terminal was opened for
+-- so it is with every call after as many as there were sites to come
 pub record ServedOut (bytes : List ℕ) (t : Terminal) (ss : List Site) : Type 0 where
   pub none-to-come : terminalAfter bytes t ss .sites ≡ 0
   pub further :
@@ -196,7 +196,7 @@ pub record CalledWith (bytes : List ℕ) (t : Terminal) (s : Site) (later : ℕ)
   pub part : x .returned .terminal .part ≡ t .part
   pub sites : x .returned .terminal .sites ≡ later
 
--- and no run of calls uses more than what was left
+-- 21 is the answer exactly where no site is to come. What a run of calls used and what it left are together what was left before
 pub record AnyThree (bytes : List ℕ) (t : Terminal) : Type 0 where
   pub one : (s : Site) (later : ℕ) → t .sites ≡ suc later → CalledWith bytes t s later (call bytes t s)
   pub turned : (s : Site) → (call bytes t s .returned .answer ≡ CheckRefused 21) ↔ (t .sites ≡ 0)

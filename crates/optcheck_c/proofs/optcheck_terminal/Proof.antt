@@ -1,7 +1,7 @@
 -- `optcheck_c::optcheck_terminal` meets its contract: the terminal that was opened is put in the caller's places. Assumes nothing.
 use Rattle.sites.specs.Handed.{terminalOf}
 use Rattle.sites.specs.declared.Terminal.{Terminal}
-use Rattle.sites.proofs.Handing.{hands-refused, hands-opened}
+use Rattle.sites.proofs.Handing.{hands-opening}
 use borrow.Author.Needs.{needs}
 use Rattle.optcheck_c.proofs.optcheck_terminal.Statement.{statement}
 use Rattle.optcheck_c.proofs.optcheck_terminal.Tie as tie
@@ -23,13 +23,13 @@ returns : tie.Need-returns
 returns c =
     let opened = c .before .before .before in
     let a = opened .before .args in
-    hands-refused (a .count) (a .allowance) (opened .open-for .result) (opened .open-for .ensures) (places (opened .before)) _ (c .before .k .given .1)
+    hands-opening (a .count) (a .allowance) (opened .open-for .result) _ (places (opened .before)) (opened .open-for .ensures) (c .before .k .given .1)
 
 returns-2 : tie.Need-returns-2
 returns-2 c =
     let opened = c .before .before .before in
     let a = opened .before .args in
-    hands-opened (a .count) (a .allowance) (opened .open-for .result) (opened .open-for .ensures) (places (opened .before)) _ (c .before .t .given .1)
+    hands-opening (a .count) (a .allowance) (opened .open-for .result) _ (places (opened .before)) (opened .open-for .ensures) (c .before .t .given .1)
 
 pub optcheck-terminal-spec : {M : Type 1} → statement M
 optcheck-terminal-spec =
