@@ -1,5 +1,6 @@
-// The check, the morning, open options and the terminal for C and Rust: exported functions on numbers and slices (rust/optcheck/include/optcheck.h is their header).
+// The check, the page, the morning, open options and the terminal for C and Rust: exported functions on numbers and slices (rust/optcheck/include/optcheck.h is their header).
 ghost use Rattle.contract.specs.Filled.{lent};
+ghost use Rattle.page.specs.Filed.{Filed};
 ghost use Rattle.morning.specs.Morning.{Serves};
 ghost use Rattle.undecided.specs.Told.{Told};
 ghost use Rattle.sites.specs.Handed.{terminalOf, HandsOpening, HandsSite};
@@ -31,6 +32,27 @@ pub extern "C" fn optcheck_check(
     };
     let found = checker::check(book, order, allowance, pos, neg, decided, trues, redundant);
     answer::word_of(found)
+}
+
+// Checks the book and the order, writes the page at the start of `page` and returns its length (crate `filing`). A buffer that is shorter than the longest page is
+// left as it is, and the length is 0.
+#[no_mangle]
+pub extern "C" fn optcheck_page(
+    book: &[u8],
+    wanted: u64,
+    unwanted: u64,
+    standard: u64,
+    allowance: u32,
+    page: &mut [u8],
+) -> usize
+    ensures { λ r. ⌜ Filed (now (book .entry)) (record { wanted = wanted; unwanted = unwanted; standard = standard }) allowance (now (page .entry)) (now (page .exit)) r ⌝ }
+{
+    let order = Order {
+        wanted,
+        unwanted,
+        standard,
+    };
+    filing::file(book, order, allowance, page)
 }
 
 // Serves a morning's orders (crate `serving`): 0, or 13 where nothing is changed.

@@ -62,10 +62,14 @@ module _ (input : List ℕ) (long : readable ≤ length input) where
       ∙ sym (by (drop orderBytes input) (orderIn input) l refl refl (omega (arith, length-drop orderBytes input)))
       ∙ sym (result-checked l input (omega arith))
 
-pub readable-decides : ReadableDecides
-unfolding replyTo
-readable-decides input = ap textOf (by (ltb (length input) readable) refl)
+-- the readable part has the same result
+pub readable-result : (input : List ℕ) → resultIn places (take readable input) ≡ resultIn places input
+readable-result input = by (ltb (length input) readable) refl
   where
     by : (short : Bool) → ltb (length input) readable ≡ short → resultIn places (take readable input) ≡ resultIn places input
     by true h = ap (resultIn places) (take-all readable input (omega (arith, ltb-true (length input) readable h)))
     by false h = same-result input (ltb-false (length input) readable h) places
+
+pub readable-decides : ReadableDecides
+unfolding replyTo
+readable-decides input = ap textOf (readable-result input)

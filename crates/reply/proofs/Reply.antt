@@ -29,7 +29,7 @@ result-checked l input h = rw (le-ltb _ _ h, resultIn)
 
 -- the words of some elements, at the first places of a table: they fit, and as many places as there are elements hold them
 module _ {A : Type 0} (f : A → ℕ) (xs : List A) (t : List ℕ) (k : ℕ) (e : k ≡ length xs) where
-  words-fit : k ≤ length (written (map f xs) t)
+  pub words-fit : k ≤ length (written (map f xs) t)
   words-fit = omega (arith, length-append (map f xs) (drop (length (map f xs)) t), length-map xs f)
 
   words-taken : take k (written (map f xs) t) ≡ map f xs

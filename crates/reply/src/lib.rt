@@ -2,18 +2,19 @@
 ghost use mathlib.Core.Path.{_≡_};
 ghost use Prim.Native.Nat.{_≤_};
 ghost use lib.ListN.{length};
+ghost use Rattle.order.specs.Values.{orderOf};
 ghost use Rattle.contract.specs.Filled.{lent};
 ghost use Rattle.report.specs.Text.{Printed};
-ghost use Rattle.reply.specs.Reply.{Answered, replyTo, readable, longest};
+ghost use Rattle.reply.specs.Reply.{Answered, replyTo, orderBytes, orderIn, readable, longest};
 use answer::Answer;
 use book::Book;
 use order::Order;
 
 // The branching allowance of the program,
-const ALLOWANCE: u32 = 1000000;
+pub const ALLOWANCE: u32 = 1000000;
 
 // the bytes of an order, its three words,
-const ORDER_BYTES: usize = 24;
+pub const ORDER_BYTES: usize = 24;
 
 // and those of the largest book: its sizes, and two words for each clause.
 const LARGEST_BOOK: usize = 3 + 16 * Book::MAX_CLAUSES;
@@ -62,6 +63,18 @@ pub fn respond(input: &[u8], out: &mut [u8]) -> usize
     report::write_outcome(found, &pos, &neg, &decided, &trues, &redundant, out)
 }
 
+// The order in the first bytes of an input.
+pub fn order_in(input: &[u8]) -> Order
+    requires { ⌜ orderBytes ≤ length (now input) ⌝ }
+    ensures { λ r. ⌜ orderOf r ≡ orderIn (now (input .entry)) ⌝ }
+{
+    Order {
+        wanted: book::word_at(input, 0),
+        unwanted: book::word_at(input, 8),
+        standard: book::word_at(input, 16),
+    }
+}
+
 // Checks the book that follows the order.
 fn check_input(
     input: &[u8],
@@ -76,14 +89,9 @@ fn check_input(
     if input.len() < ORDER_BYTES {
         return Answer::Refused(1);
     }
-    let order = Order {
-        wanted: book::word_at(input, 0),
-        unwanted: book::word_at(input, 8),
-        standard: book::word_at(input, 16),
-    };
     checker::check(
         &input[ORDER_BYTES..],
-        order,
+        order_in(input),
         ALLOWANCE,
         pos,
         neg,

@@ -34,7 +34,7 @@ textWith a number t pos neg decided trues redundant =
     ++ recordLines (take (t .records) decided) (take (t .records) trues) (take (t .records) redundant))
 
 -- the first word
-word-at-most : (a : Answer) → length (wordText a) ≤ 7
+pub word-at-most : (a : Answer) → length (wordText a) ≤ 7
 word-at-most (Can t) = omega arith
 word-at-most (Cannot t) = omega arith
 word-at-most (Refused k) = omega arith

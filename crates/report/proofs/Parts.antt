@@ -20,10 +20,10 @@ unfolding fields
 fields-none ns i h = ap fields (drop-of-length-le ns h)
 
 -- the first k elements of a list from place i on
-first-more : (k : ℕ) (l : List ℕ) (i : ℕ) → i < k → k ≤ length l → drop i (take k l) ≡ getD l i 0 ∷ drop (i + 1) (take k l)
+pub first-more : (k : ℕ) (l : List ℕ) (i : ℕ) → i < k → k ≤ length l → drop i (take k l) ≡ getD l i 0 ∷ drop (i + 1) (take k l)
 first-more k l i h fits = rw (drop-more (take k l) i (rw (length-take-le k l fits) h), getD-take k l i 0 h)
 
-first-none : (k : ℕ) (l : List ℕ) (i : ℕ) → k ≤ i → drop i (take k l) ≡ []
+pub first-none : (k : ℕ) (l : List ℕ) (i : ℕ) → k ≤ i → drop i (take k l) ≡ []
 first-none k l i h = drop-of-length-le (take k l) {i = i} (simp length-take (omega arith))
 
 module _ (k i : ℕ) (h : i < k) where

@@ -60,6 +60,10 @@ pub record Left (before : List ℕ) (at : ℕ) (whole out : List ℕ) (next : �
 pub left-all : {out : List ℕ} {at : ℕ} {whole : List ℕ} → Room out at whole → Left out at whole out at whole
 left-all r = record { room = r; long = refl; end = refl; bytes = refl }
 
+-- by another name
+pub left-as : {before : List ℕ} {at : ℕ} {whole out : List ℕ} {next : ℕ} {rest same : List ℕ} → rest ≡ same → Left before at whole out next rest → Left before at whole out next same
+left-as {before} {at} {whole} {out} {next} e left = subst (Left before at whole out next) e left
+
 -- where what is left has two parts, there is room for the first
 pub left-room : {before : List ℕ} {at : ℕ} {whole out : List ℕ} {next : ℕ} {rest s : List ℕ} (t : List ℕ) → rest ≡ s ++ t → Left before at whole out next rest → Room out next s
 left-room {s = s} t e left = record { fits = omega (arith, left .room .fits, ap length e, length-append s t) }

@@ -8,8 +8,9 @@ use crate::lines::put_first;
 use crate::lines::put_records;
 use answer::Answer;
 
+pub mod fields;
 mod lines;
-mod put;
+pub mod put;
 // No line is longer: a number takes a blank and at most 20 digits, the first word has at most 7 letters, and the line feed is one byte.
 const NUMBER: usize = 21;
 

@@ -1,8 +1,8 @@
 //! The proved static library as a checker.
 
-use crate::lent::{morning, open, sites, terminal, Lent};
+use crate::lent::{morning, open, page, sites, terminal, Lent};
 use crate::question::{after_text, first_difference, in_turn, tried_text, Question};
-use crate::question::{Check, Morning, Open, Sites, Terminal};
+use crate::question::{Check, Morning, Open, Page, Sites, Terminal};
 use crate::under_test::UnderTest;
 use optcheck::Site;
 use port::{Outcome, Places};
@@ -21,6 +21,7 @@ impl UnderTest for Library {
     fn takes(&self, question: &Question) -> bool {
         match question {
             Question::Check(check) => check.parts().is_some(),
+            Question::Page(page) => page.parts().is_some(),
             Question::Morning(_)
             | Question::Open(_)
             | Question::Sites(_)
@@ -35,6 +36,7 @@ impl UnderTest for Library {
             Question::Open(open) => self.open(open),
             Question::Sites(sites) => self.sites(sites),
             Question::Terminal(terminal) => self.terminal(terminal),
+            Question::Page(page) => self.page(page),
         }
     }
 }
@@ -108,6 +110,13 @@ impl Library {
                 optcheck::site_words(book, *order, left, *part, sites, tables)
             })?;
         Ok(after_text(&after))
+    }
+
+    fn page(&self, question: &Page) -> Result<String, String> {
+        let (order, book) = question.parts().ok_or("an order that is cut short")?;
+        page::lend(self.rubbish, |bytes| {
+            optcheck::page_bytes(book, order, question.allowance, bytes)
+        })
     }
 }
 

@@ -18,6 +18,7 @@ mod library;
 mod mornings;
 mod orders;
 mod outside;
+mod pages;
 mod question;
 mod random;
 mod refused;
@@ -35,30 +36,31 @@ use std::{env, fs, process};
 use under_test::{Port, Program, UnderTest};
 
 const USAGE: &str = "\
-compare differential [--program PATH] [--seed S] [--books N] [--solver NAME]
-    generated books, mornings, open options and sites through the checker and the port, each verdict
-    on a book also by an outside solver
-compare vectors FILE... [--program PATH]
+compare differential [--program PATH [--page-program PATH]] [--seed S] [--books N] [--solver NAME]
+    generated books, mornings, open options, sites and pages through the checker and the port, each
+    verdict on a book also by an outside solver
+compare vectors FILE... [--program PATH [--page-program PATH]]
     the cases of these files through the checker and the port
 compare allowances
     small books with every allowance and number of places through the checker and the port
 compare tallies [--seed S] [--books N]
     generated books through the engine's own source, every tally counted anew after each change
-compare framed FILE FOLDER
-    the program's cases of a file as the test program `vectors` reads and writes them, in FOLDER
+compare framed FILE... FOLDER
+    the programs' cases of these files as the test program `vectors` reads and writes them, in FOLDER
 compare bench [--seed S] [--solver NAME]
     the same books through the checker, the port and outside solvers, and mornings, open options and
     sites beside single checks, as tables
 
-The checker is the program at PATH or, where compare is built with the feature `proved`, the library.
+The checker is the program at PATH, with the one that prints pages, or, where compare is built with the
+feature `proved`, the library.
 The outside solver is the first installed of minisat, cadical and picosat, if NAME does not say.
 ";
 
 const SEED: u64 = 1;
 const BOOKS: usize = 4000;
 
-/// What the lent tables hold before a run; for mornings, open options and sites, its complement in turn
-/// with it.
+/// What the lent tables hold before a run; for mornings, open options, sites and pages, its complement in
+/// turn with it.
 const RUBBISH: u64 = 0xa5a5_5a5a_a5a5_5a5a;
 
 /// The words of the command line after the subcommand.
@@ -66,6 +68,7 @@ const RUBBISH: u64 = 0xa5a5_5a5a_a5a5_5a5a;
 struct Words {
     files: Vec<String>,
     program: Option<String>,
+    page_program: Option<String>,
     seed: Option<u64>,
     books: Option<usize>,
     solver: Option<String>,
@@ -103,6 +106,7 @@ fn read_words(mut words: impl Iterator<Item = String>) -> Option<Words> {
     while let Some(word) = words.next() {
         match word.as_str() {
             "--program" => read.program = Some(words.next()?),
+            "--page-program" => read.page_program = Some(words.next()?),
             "--seed" => read.seed = Some(words.next()?.parse().ok()?),
             "--books" => read.books = Some(words.next()?.parse().ok()?),
             "--solver" => read.solver = Some(words.next()?),
@@ -110,7 +114,8 @@ fn read_words(mut words: impl Iterator<Item = String>) -> Option<Words> {
             _ => read.files.push(word),
         }
     }
-    Some(read)
+    // The program that prints pages goes with the one that prints outcomes.
+    (read.program.is_some() || read.page_program.is_none()).then_some(read)
 }
 
 fn differential(words: &Words) -> Result<(), String> {
@@ -130,6 +135,9 @@ fn differential(words: &Words) -> Result<(), String> {
         print!("{}", tally.told());
     }
     if let Some(tally) = terminals::run(&mut tested, seed, terminals::beside(books))? {
+        print!("{}", tally.told());
+    }
+    if let Some(tally) = pages::run(&mut tested, seed, pages::beside(books))? {
         print!("{}", tally.told());
     }
     println!("no difference, in {:.1} s", start.elapsed().as_secs_f64());
@@ -164,9 +172,12 @@ fn vectors(words: &Words) -> Result<(), String> {
 
 /// Writes the files `stdin` and `stdout` of the test program.
 fn framed(words: &Words) -> Result<(), String> {
-    let [file, folder] = words.files.as_slice() else { usage() };
-    let text = fs::read_to_string(file).map_err(|error| format!("{file}: {error}"))?;
-    let framed = framed::framed(&text).map_err(|what| format!("{file}: {what}"))?;
+    let Some((folder, files @ [_, ..])) = words.files.split_last() else { usage() };
+    let mut framed = framed::Framed::default();
+    for file in files {
+        let text = fs::read_to_string(file).map_err(|error| format!("{file}: {error}"))?;
+        framed.add(&text).map_err(|what| format!("{file}: {what}"))?;
+    }
     fs::write(format!("{folder}/stdin"), framed.stdin)
         .and_then(|()| fs::write(format!("{folder}/stdout"), framed.stdout))
         .map_err(|error| format!("{folder}: {error}"))
@@ -205,7 +216,9 @@ fn bench(words: &Words) -> Result<(), String> {
 /// The program that was given, else the library, with this rubbish in the tables that it is lent.
 fn under_test(words: &Words, rubbish: u64) -> Result<Box<dyn UnderTest>, String> {
     match &words.program {
-        Some(path) => Ok(Box::new(Program { path: path.clone() })),
+        Some(path) => {
+            Ok(Box::new(Program { path: path.clone(), page: words.page_program.clone() }))
+        }
         None => library(rubbish),
     }
 }

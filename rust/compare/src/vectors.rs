@@ -1,7 +1,7 @@
 //! Files of cases with the answer that must be given to each: `case NAME`, the question, `out`, the
-//! lines of the answer, `end`. The question is `in HEX`, all of standard input of the program, or a
-//! line that names it with its fields on the lines after it. Each checker must print the answer
-//! text for text.
+//! lines of the answer, `end`. The question is `in HEX` or `page HEX`, all of standard input of a
+//! program, or a line that names it with its fields on the lines after it. Each checker must print the
+//! answer text for text.
 
 use crate::fields::key_and_value;
 use crate::question::{first_difference, Question};
@@ -10,7 +10,7 @@ use std::collections::BTreeMap;
 use std::fmt::Write;
 
 /// Questions of the format that no checker answers yet.
-const NOT_YET: [&str; 5] = ["page", "desk", "join", "turns", "cheapest"];
+const NOT_YET: [&str; 4] = ["desk", "join", "turns", "cheapest"];
 
 /// A case: its name, what is asked, and what must be printed.
 struct Vector {
@@ -77,13 +77,33 @@ pub fn run(tested: &mut [Box<dyn UnderTest>], text: &str) -> Result<(Score, Stri
     Ok((score, told))
 }
 
-/// The cases of a file whose question is standard input of the program: the input and the answer.
-pub fn program_cases(text: &str) -> Result<Vec<(Vec<u8>, String)>, String> {
-    let of_program = |vector: Vector| match vector.asked {
-        Asked::Known(Question::Check(check)) if check.is_of_program() => {
-            Some((check.input, vector.answer))
-        }
-        _ => None,
+/// A case whose question is standard input of a program: which of the two, the input and the answer.
+pub struct ProgramCase {
+    pub program: Prints,
+    pub input: Vec<u8>,
+    pub answer: String,
+}
+
+/// What a program prints.
+#[derive(Clone, Copy, Debug, PartialEq, Eq)]
+pub enum Prints {
+    Outcome,
+    Page,
+}
+
+/// The cases of a file whose question is standard input of a program.
+pub fn program_cases(text: &str) -> Result<Vec<ProgramCase>, String> {
+    let of_program = |Vector { asked, answer, .. }: Vector| {
+        let (program, input) = match asked {
+            Asked::Known(Question::Check(check)) if check.is_of_program() => {
+                (Prints::Outcome, check.input)
+            }
+            Asked::Known(Question::Page(page)) if page.is_of_program() => {
+                (Prints::Page, page.input)
+            }
+            _ => return None,
+        };
+        Some(ProgramCase { program, input, answer })
     };
     Ok(read(text)?.into_iter().filter_map(of_program).collect())
 }
@@ -166,6 +186,15 @@ mod tests {
                             site 1 0 0 0 0 64 64 64\nout\n\
                             refused 7 0 0 0\nleft 8\nsites 2\nend\n";
 
+    /// The book of the rules "1" and "not 1", and its page with an allowance of one branching.
+    const PAGE: &str = "case page\nfiled\n\
+                        book 010200\
+                        01000000000000000000000000000000\
+                        00000000000000000100000000000000\n\
+                        allowance 1\norder 0 0 0\nout\n\
+                        cannot             0         1         1\n\
+                        \x20  1 none                               \nend\n";
+
     fn through_the_port(text: &str) -> Result<(Score, String), String> {
         run(&mut [Box::new(Port)], text)
     }
@@ -247,6 +276,17 @@ mod tests {
     }
 
     #[test]
+    fn a_page_is_held_to_its_last_blank() {
+        let none = "case none\npage 00\nout\nrefused            1         0         0\nend\n";
+        let (score, told) = through_the_port(&format!("{PAGE}{none}")).unwrap();
+        assert_eq!((score.agree, told.as_str()), (2, ""));
+        let short = PAGE.replace("none                               \n", "none\n");
+        let (_, told) = through_the_port(&short).unwrap();
+        let due = "line 2 is `   1 none                               `, due is `   1 none`";
+        assert_eq!(told, format!("case page differs, port: {due}\n"));
+    }
+
+    #[test]
     fn what_is_not_known_yet_is_skipped_by_name() {
         let desk = "case a desk\ndesk 3\nset 1 fitted\nout\n0\n0\norder 1 0\nend\n";
         let (score, told) = through_the_port(&format!("{SMALL}{desk}")).unwrap();
@@ -284,6 +324,8 @@ mod tests {
             ("morning.txt", 250),
             ("open.txt", 250),
             ("sites.txt", 250),
+            ("page.txt", 250),
+            ("page_lines.txt", 80),
         ];
         for (file, cases) in files {
             let text = std::fs::read_to_string(format!("{folder}/{file}")).unwrap();

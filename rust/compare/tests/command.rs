@@ -45,7 +45,7 @@ fn a_vector_that_differs_is_named() {
 
 #[test]
 fn a_question_that_a_program_does_not_take_is_named_and_no_difference() {
-    for file in ["morning.txt", "open.txt", "sites.txt"] {
+    for file in ["morning.txt", "open.txt", "sites.txt", "page.txt"] {
         let output = compare(&["vectors", &vectors(file), "--program", "cat"]);
         assert_eq!(output.status.code(), Some(0), "{}", said(&output));
         let told = String::from_utf8_lossy(&output.stdout);
@@ -53,6 +53,32 @@ fn a_question_that_a_program_does_not_take_is_named_and_no_difference() {
         let last = "program cat, port: 250 cases agree, 0 differ, 0 skipped\n";
         assert!(told.ends_with(last), "{told}");
     }
+}
+
+/// Standard input that comes back as it was is no page.
+#[test]
+fn a_page_that_differs_is_named() {
+    let programs = ["--program", "cat", "--page-program", "cat"];
+    let output = compare(&[&["vectors", &vectors("page.txt")], &programs[..]].concat());
+    assert_eq!(output.status.code(), Some(1));
+    let told = String::from_utf8_lossy(&output.stdout);
+    let last = "programs cat and cat, port: 0 cases agree, 250 differ, 0 skipped\n";
+    assert!(told.ends_with(last), "{told}");
+}
+
+#[test]
+fn cases_are_framed_from_several_files() {
+    let folder = env!("CARGO_TARGET_TMPDIR");
+    let files = ["page.txt", "page_lines.txt"].map(vectors);
+    let output = compare(&["framed", &files[0], &files[1], folder]);
+    assert_eq!(output.status.code(), Some(0), "{}", said(&output));
+    let stored = |name: &str| std::fs::read(Path::new(folder).join(name)).unwrap();
+    assert_eq!(stored("stdin")[0], 1);
+    let whole = std::fs::read(vectors("../../crates/vectors/stdout")).unwrap();
+    assert!(whole.ends_with(&stored("stdout")));
+    let output = compare(&["framed", &files[0], "no-such-file", folder]);
+    assert_eq!(output.status.code(), Some(1));
+    assert!(said(&output).starts_with("compare framed: no-such-file: "), "{}", said(&output));
 }
 
 #[test]
@@ -74,10 +100,13 @@ fn the_last_line_on_tallies_has_the_counts() {
 
 #[test]
 fn a_bad_command_line_ends_with_2() {
-    let bad: [&[&str]; 6] = [
+    let bad: [&[&str]; 9] = [
         &[],
         &["check"],
         &["vectors"],
+        &["vectors", "a", "--page-program", "cat"],
+        &["framed"],
+        &["framed", "a"],
         &["differential", "--seed", "x"],
         &["bench", "a"],
         &["tallies", "a"],

@@ -1,13 +1,13 @@
 //! The proved check, that of a morning's orders together, that of every setting of open options, and that
 //! of sites that share one allowance, through the wrapper: tables are lent to the library, and what it
-//! wrote into them is taken out. Each answer here is the library's own.
+//! wrote into them is taken out. Each answer here is the library's own, and so is the page of a check.
 
 #[cfg(feature = "proved")]
 use crate::lent::Lent;
 use crate::{Book, Order, Rule};
 #[cfg(feature = "proved")]
 use optcheck::Terminal;
-pub use optcheck::{Answer, Kind, Verdict};
+pub use optcheck::{Answer, Kind, Page, Verdict};
 
 /// What a check may use, each check of a morning, and each setting of open options: branchings, and
 /// places for derived rules. Sites share the branchings, and each has so many places.
@@ -132,6 +132,13 @@ pub fn sites(book: &Book, orders: &[Order], limits: Limits) -> Result<Sites, Unl
     Ok(opened.map(|mut terminal| orders.iter().map(|&order| serve(&mut terminal, order)).collect()))
 }
 
+/// The page of the proved check of an order against a book, with this many branchings and as many places
+/// for derived rules as there may be.
+#[cfg(feature = "proved")]
+pub fn page(book: &Book, order: Order, allowance: u32) -> Result<Page, Unlinked> {
+    Ok(optcheck::page(&crate::bytes::book_bytes(book), order, allowance))
+}
+
 /// Without the library nothing is checked.
 #[cfg(not(feature = "proved"))]
 pub fn check(_: &Book, _: Order, _: Limits) -> Result<Checked, Unlinked> {
@@ -153,5 +160,11 @@ pub fn undecided(_: &Book, _: Order, _: u64, _: Limits) -> Result<Undecided, Unl
 /// Without the library nothing is checked.
 #[cfg(not(feature = "proved"))]
 pub fn sites(_: &Book, _: &[Order], _: Limits) -> Result<Sites, Unlinked> {
+    Err(Unlinked)
+}
+
+/// Without the library nothing is checked.
+#[cfg(not(feature = "proved"))]
+pub fn page(_: &Book, _: Order, _: u32) -> Result<Page, Unlinked> {
     Err(Unlinked)
 }

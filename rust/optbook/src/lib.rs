@@ -2,8 +2,8 @@
 //!
 //! `sheet` reads the readable form with the line of each `mistake`, and `text` writes it; `bytes` and
 //! `dimacs` are the two other forms of a book. `engine` is the proved check of an order, of several, of
-//! one with open options, or of sites that share one allowance, `outcome` tells what it found with the
-//! options' names, and `explain` looks for the reason of a `cannot`.
+//! one with open options, or of sites that share one allowance, and the page of one, `outcome` tells what
+//! it found with the options' names, and `explain` looks for the reason of a `cannot`.
 
 pub mod bytes;
 pub mod dimacs;

@@ -2,12 +2,13 @@
  * The option book checker, for C. One call checks an order against a book, writes the outcome into
  * tables that the caller lends, and returns the answer as one word; another checks several orders
  * of one book; a third checks an order with every setting of options that are left open; two more
- * serve sites, one a call, that share one allowance. Every length is permitted: a bad one is a
- * refusal.
+ * serve sites, one a call, that share one allowance; the last writes the outcome as a page of text.
+ * Every length is permitted: a bad one is a refusal, and a page that is too short stays as it was.
  *
- * The book, the orders, the answers and each table are a pointer and a length in elements, and a
- * verdict, a setting and the numbers of a terminal are pointers. No two of them overlap; the book
- * and the orders are only read. A pointer with the length 0 is not used, and must not be null.
+ * The book, the orders, the answers, each table and the page are a pointer and a length in
+ * elements, and a verdict, a setting and the numbers of a terminal are pointers. No two of them
+ * overlap; the book and the orders are only read. A pointer with the length 0 is not used, and must
+ * not be null.
  */
 
 #ifndef OPTCHECK_H
@@ -20,7 +21,8 @@
 extern "C" {
 #endif
 
-/* The limits of a book, of the lent tables, of a morning, of open options and of a terminal. */
+/* The limits of a book, of the lent tables, of a morning, of open options and of a terminal, and the
+ * lengths of a page. */
 #define OPTCHECK_OPTIONS 64u
 #define OPTCHECK_RULES 1024u
 #define OPTCHECK_DERIVED_PLACES 2048u /* pos and neg: equal lengths, at most this */
@@ -28,6 +30,8 @@ extern "C" {
 #define OPTCHECK_ORDERS 16u           /* a morning: at least one order, at most this */
 #define OPTCHECK_OPEN 10u             /* open options: at most this */
 #define OPTCHECK_SITES 8u             /* a terminal: at least one site, at most this */
+#define OPTCHECK_PAGE_LINE 41u        /* a page: the bytes of a line */
+#define OPTCHECK_PAGE_BYTES 84009u    /* the longest page: a line, and one for each derived rule */
 
 /*
  * Checks the order (wanted, unwanted, standard) against the book, with at most `allowance`
@@ -143,6 +147,27 @@ uint64_t optcheck_site(
     uint64_t *decided, size_t decided_len,
     uint64_t *trues, size_t trues_len,
     uint64_t *redundant, size_t redundant_len);
+
+/*
+ * Checks the order against the book as optcheck_check does, with at most `allowance` branchings and
+ * OPTCHECK_DERIVED_PLACES places for derived rules in tables of its own, and writes the outcome at
+ * the start of `page` as lines of 40 characters and a line feed, in ASCII. No 0 follows them.
+ *
+ *   first line  can, cannot, refused or stopped, padded right with blanks to 10; then the number,
+ *               the branchings and the number of derived rules, each set right in 10
+ *   each other  a derived rule: its number in their list, from 1, set right in 4, a blank, and its
+ *               options in ascending order with one blank between, those that keep it when left out
+ *               after a minus; "none" where it has no entry, and "(K entries)" where this text of
+ *               its K entries has more than 35 characters; padded right with blanks
+ *
+ * The result is the number of bytes written, OPTCHECK_PAGE_LINE for each line; later bytes are not
+ * touched, and what the page held plays no part. It is 0, and no byte is touched, where page_len is
+ * less than OPTCHECK_PAGE_BYTES.
+ */
+size_t optcheck_page(
+    const uint8_t *book, size_t book_len,
+    uint64_t wanted, uint64_t unwanted, uint64_t standard, uint32_t allowance,
+    uint8_t *page, size_t page_len);
 
 /* The kinds of an answer. */
 #define OPTCHECK_CAN 0u

@@ -1,18 +1,23 @@
 //! A safe wrapper over the proved checker's static library (include/optcheck.h). `check`, `morning`,
-//! `undecided`, `sites` and `Terminal` are there with the feature `proved`; without it nothing is linked.
+//! `undecided`, `sites`, `Terminal` and `page` are there with the feature `proved`; without it nothing is
+//! linked.
 
 mod answer;
 #[cfg(feature = "proved")]
 mod library;
 mod order;
+mod page;
 mod tried;
 
 pub use answer::{Answer, Kind};
 #[cfg(feature = "proved")]
 pub use library::{check, check_word, morning, morning_words, undecided, undecided_words};
 #[cfg(feature = "proved")]
+pub use library::{page, page_bytes};
+#[cfg(feature = "proved")]
 pub use library::{site_words, sites, terminal_words, Site, Terminal};
 pub use order::Order;
+pub use page::{Page, PAGE_BYTES, PAGE_LINE};
 use std::ops::Range;
 pub use tried::{Tried, Verdict};
 

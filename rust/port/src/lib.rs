@@ -4,11 +4,13 @@
 //! `check` takes a book's bytes, an order, the lent places and an allowance, and gives the outcome.
 //! `morning` takes several orders of one book, and gives the outcome of each. `undecided` takes an order
 //! with open options, and tries every setting of them. `sites` takes several orders of one book that
-//! share one allowance. `run_program` does what the program does with its standard input.
+//! share one allowance. `page` makes the page of an outcome. `run_program` does what the program does with
+//! its standard input.
 
 mod book;
 mod morning;
 mod outcome;
+mod page;
 mod program;
 mod request;
 mod sites;
@@ -18,6 +20,7 @@ mod words;
 
 pub use morning::{morning, Morning};
 pub use outcome::{Ending, Outcome, CAN, CANNOT};
+pub use page::page;
 pub use program::{run_program, PROGRAM_ALLOWANCE, PROGRAM_PLACES, PROGRAM_RECORD_PLACES};
 pub use request::{check, Order, Places, Request};
 pub use sites::{sites, Served, Site, Sites};

@@ -37,11 +37,6 @@ module _ (input : List ℕ) (before : Tables) where
           (take-all (length input - orderBytes) (drop orderBytes input) (omega (arith, length-drop orderBytes input))) e
           ∙ sym (result-checked (lengths before) input h)
 
--- orders with the same words are the same
-same-order : {p p′ q q′ s s′ : ℕ} → p ≡ p′ → q ≡ q′ → s ≡ s′ →
-    _≡_ {A = Order} (record { wanted = p; unwanted = q; standard = s }) (record { wanted = p′; unwanted = q′; standard = s′ })
-same-order p q s = cc
-
 -- the function's arguments, and the lent tables
 abbrev start : tie.After-slice-known5 → tie.Start
 start c = c .before .before .before .before .before .before
@@ -54,15 +49,6 @@ returns c =
     let s = start (c .before) in
     no-order (s .args .input .now) (tables s) (omega (arith, c .if1 .taken))
 
-word-at-requires : tie.Need-word-at-requires
-word-at-requires c κs = search needs
-
-word-at-requires-2 : tie.Need-word-at-requires-2
-word-at-requires-2 c κs = search needs
-
-word-at-requires-3 : tie.Need-word-at-requires-3
-word-at-requires-3 c κs = search needs
-
 sub-check : tie.Need-sub-check
 sub-check c = search needs
 
@@ -71,6 +57,9 @@ part-check-start c = search needs
 
 part-check-end : tie.Need-part-check-end
 part-check-end c = search needs
+
+order-in-requires : tie.Need-order-in-requires
+order-in-requires c κs = search needs
 
 check-requires : tie.Need-check-requires
 check-requires c κs = search needs
@@ -99,12 +88,11 @@ left c =
 returns-2 : tie.Need-returns-2
 returns-2 c =
     let done = c .before .before .before .before .before .before .before .before .before .before in
-    let words = done .before .before .before .before .before .before .before in
-    let whole = words .before .before .before in
+    let whole = done .before .before .before .before .before .before .before .before in
     let s = start (whole .before) in
     order-and-book (s .args .input .now) (tables s) _ _ (left done)
     (omega (arith, whole .if1 .left))
-    (same-order (words .before .before .word-at .ensures) (words .before .word-at2 .ensures) (words .word-at3 .ensures))
+    (done .before .before .before .before .before .before .order-in .ensures)
     (done .check .ensures)
 
 pub check-input-spec : {M : Type 1} → statement M
@@ -112,12 +100,10 @@ check-input-spec =
     tie.close
     (tie.spec
     returns
-    word-at-requires
-    word-at-requires-2
-    word-at-requires-3
     sub-check
     part-check-start
     part-check-end
+    order-in-requires
     check-requires
     same-length
     same-length-2

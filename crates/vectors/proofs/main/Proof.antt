@@ -13,8 +13,8 @@ abbrev μ-loop : tie.MeasureT-loop
 loop-holds : tie.Need-loop-holds Inv-loop μ-loop
 loop-holds c = tt
 
-reply-to-next-requires : tie.Need-reply-to-next-requires Inv-loop μ-loop
-reply-to-next-requires c κs = search needs
+answer-next-requires : tie.Need-answer-next-requires Inv-loop μ-loop
+answer-next-requires c κs = search needs
 
 sub-left : tie.Need-sub-left Inv-loop μ-loop
 sub-left c = omega arith
@@ -38,7 +38,7 @@ main-spec =
     Inv-loop
     μ-loop
     loop-holds
-    reply-to-next-requires
+    answer-next-requires
     sub-left
     loop-less
     loop-again

@@ -354,7 +354,7 @@ mod tests {
 
     #[test]
     fn a_program_is_asked_no_morning() {
-        let program = Program { path: "./no-such-program".to_string() };
+        let program = Program { path: "./no-such-program".to_string(), page: None };
         assert!(run(&mut [Box::new(program)], 1, LEAST).unwrap().is_none());
     }
 

@@ -48,9 +48,7 @@ impl Check {
 
     /// The order and the book; none where the order is cut short.
     pub fn parts(&self) -> Option<(Order, &[u8])> {
-        let (order, book) = self.input.split_at_checked(ORDER)?;
-        let [wanted, unwanted, standard] = [0, 1, 2].map(|number| word(order, number));
-        Some((Order { wanted, unwanted, standard }, book))
+        order_and_book(&self.input)
     }
 
     /// The check in words, its bytes in hexadecimal.
@@ -71,6 +69,13 @@ impl Check {
         let (order, places, allowance) = (of_port(order), self.places, self.allowance);
         port::check(&Request { book, order, places, allowance })
     }
+}
+
+/// The order and the book of standard input; none where the order is cut short.
+pub fn order_and_book(input: &[u8]) -> Option<(Order, &[u8])> {
+    let (order, book) = input.split_at_checked(ORDER)?;
+    let [wanted, unwanted, standard] = [0, 1, 2].map(|number| word(order, number));
+    Some((Order { wanted, unwanted, standard }, book))
 }
 
 /// The word with this number.

@@ -5,12 +5,14 @@
 mod check;
 mod morning;
 mod open;
+mod page;
 mod sites;
 mod terminal;
 
 pub use check::{Check, ORDER};
 pub use morning::Morning;
 pub use open::{tried_text, verdict_name, Open};
+pub use page::Page;
 pub use sites::{Site, Sites};
 pub use terminal::{after_text, After, Terminal};
 
@@ -26,10 +28,12 @@ pub enum Question {
     Open(Open),
     Sites(Sites),
     Terminal(Terminal),
+    Page(Page),
 }
 
 impl Question {
-    /// The question of these lines: `in` and all of standard input, or its name and then its fields.
+    /// The question of these lines: `in` or `page` and all of standard input, or its name and then its
+    /// fields.
     pub fn read(lines: &[&str]) -> Result<Question, String> {
         let (first, fields) = lines.split_first().ok_or("there is no question")?;
         match key_and_value(first) {
@@ -39,6 +43,8 @@ impl Question {
             ("open", "") => Ok(Open::read(fields)?.into()),
             ("sites", "") => Ok(Sites::read(fields)?.into()),
             ("terminal", "") => Ok(Terminal::read(fields)?.into()),
+            ("page", hex) if fields.is_empty() => Ok(Page::of_program(bytes(hex)?).into()),
+            ("filed", "") => Ok(Page::read(fields)?.into()),
             (key, _) => Err(format!("`{key}` is no question")),
         }
     }
@@ -51,6 +57,7 @@ impl Question {
             Question::Open(open) => tried_text(&open.port_tried()),
             Question::Sites(sites) => in_turn(&sites.port_outcomes()),
             Question::Terminal(terminal) => after_text(&terminal.port_after()),
+            Question::Page(page) => page.port_page(),
         }
     }
 }
@@ -82,6 +89,12 @@ impl From<Sites> for Question {
 impl From<Terminal> for Question {
     fn from(terminal: Terminal) -> Question {
         Question::Terminal(terminal)
+    }
+}
+
+impl From<Page> for Question {
+    fn from(page: Page) -> Question {
+        Question::Page(page)
     }
 }
 

@@ -335,7 +335,7 @@ fn a_kind_that_was_not_seen_is_named() {
 
 #[test]
 fn a_program_is_asked_no_sites() {
-    let program = Program { path: "./no-such-program".to_string() };
+    let program = Program { path: "./no-such-program".to_string(), page: None };
     assert!(run(&mut [Box::new(program)], 1, LEAST).unwrap().is_none());
 }
 

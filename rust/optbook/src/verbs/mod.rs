@@ -7,6 +7,7 @@ mod explain;
 mod from_dimacs;
 mod morning;
 mod open;
+mod page;
 mod sites;
 mod text;
 
@@ -21,6 +22,7 @@ pub const VERBS: &[Verb] = &[
     open::VERB,
     sites::VERB,
     explain::VERB,
+    page::VERB,
     bytes::VERB,
     text::VERB,
     dimacs::VERB,
@@ -76,9 +78,9 @@ tells more of a verb. A text has one thing a line:
   want: ring_main
   without: third_vessel
 
-Exit status: check and explain end with 0 where the order can be built, 1 where it cannot, 2 where
-the checker refuses it, 3 where it stops without a verdict, and morning and sites with the highest of
-their orders; open with 0 where every setting can be built, 1 where none can, 2 and 3 likewise, and 4
+Exit status: check, explain and page end with 0 where the order can be built, 1 where it cannot, 2
+where the checker refuses it, 3 where it stops without a verdict, and morning and sites with the highest
+of their orders; open with 0 where every setting can be built, 1 where none can, 2 and 3 likewise, and 4
 where some can but not all; the other verbs with 0. All end with 64 on a bad command line, with 65 where
 what is read has a mistake or cannot be read, and with 74 where the output cannot be written.
 ";

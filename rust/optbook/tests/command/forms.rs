@@ -3,8 +3,18 @@
 
 use crate::run::{optbook, CAN, PLANT};
 
-const VERBS: [&str; 9] =
-    ["check", "morning", "open", "sites", "explain", "bytes", "text", "dimacs", "from-dimacs"];
+const VERBS: [&str; 10] = [
+    "check",
+    "morning",
+    "open",
+    "sites",
+    "explain",
+    "page",
+    "bytes",
+    "text",
+    "dimacs",
+    "from-dimacs",
+];
 
 #[test]
 fn the_plant_goes_to_bytes_and_back() {
@@ -60,7 +70,7 @@ fn a_clause_that_is_always_kept_is_left_out_and_told() {
 
 #[test]
 fn a_mistake_is_told_once_with_file_line_and_what_was_expected() {
-    for verb in ["check", "morning", "open", "sites", "explain", "bytes", "dimacs"] {
+    for verb in ["check", "morning", "open", "sites", "explain", "page", "bytes", "dimacs"] {
         let ended = optbook(&[verb, PLANT, "-"], b"\nwant: dram\n");
         let due = "optbook: standard input: line 2: no option is named `dram`: expected a name of \
                    an `options:` line\n";
@@ -152,6 +162,13 @@ fn a_bad_command_line_ends_with_64_and_says_how() {
         (&["open", PLANT], "1 files are given: expected 2 at least"),
         (&["sites", "--places", "7"], "0 files are given: expected 1 at least"),
         (&["sites", PLANT, CAN, "--sites", "2"], "`--sites` is unknown here"),
+        (&["page"], "0 files are given: expected 1 at least and 2 at most"),
+        (&["page", PLANT, CAN, CAN], "3 files are given: expected 1 at least and 2 at most"),
+        (&["page", PLANT, "--places", "7"], "`--places` is unknown here"),
+        (
+            &["page", PLANT, "--allowance", "-1"],
+            "`--allowance -1`: expected a number from 0 to 4294967295",
+        ),
         (&["check", "-", "-"], "`-` stands twice: standard input is read once"),
         (&["bytes", PLANT, "--places", "1"], "`--places` is unknown here"),
         (
@@ -195,7 +212,7 @@ fn the_help_has_an_example_of_each_verb() {
 #[cfg(not(feature = "proved"))]
 #[test]
 fn without_the_library_nothing_is_checked() {
-    for verb in ["check", "morning", "open", "sites", "explain"] {
+    for verb in ["check", "morning", "open", "sites", "explain", "page"] {
         let ended = optbook(&[verb, PLANT, CAN], b"");
         assert!(ended.said.starts_with("optbook: built without the proved library"));
         assert_eq!((ended.status, ended.printed.len()), (69, 0));

@@ -6,6 +6,8 @@ mod morning;
 #[cfg(feature = "proved")]
 mod open;
 #[cfg(feature = "proved")]
+mod page;
+#[cfg(feature = "proved")]
 mod proved;
 mod run;
 #[cfg(feature = "proved")]

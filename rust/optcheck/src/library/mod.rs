@@ -2,6 +2,7 @@
 
 mod check;
 mod morning;
+mod page;
 mod sites;
 #[cfg(test)]
 mod small;
@@ -9,5 +10,6 @@ mod undecided;
 
 pub use check::{check, check_word};
 pub use morning::{morning, morning_words};
+pub use page::{page, page_bytes};
 pub use sites::{site_words, sites, terminal_words, Site, Terminal};
 pub use undecided::{undecided, undecided_words};

@@ -1,4 +1,4 @@
--- `vectors::reply_to_next` meets its contract: the length is at most the buffer's. Assumes nothing.
+-- `vectors::answer_next` meets its contract: the length is at most the buffer's. Assumes nothing.
 use mathlib.Core.Path.{_≡_, sym}
 use mathlib.Core.List.{List, _++_}
 use Prim.Native.Nat.{ℕ, _≤_}
@@ -6,8 +6,8 @@ use native.Mathlib.Omega.{arith}
 use lib.ListN.{length, take, drop, length-append}
 use lib.Seq.{length-take-le}
 use borrow.Author.Needs.{needs}
-use Rattle.vectors.proofs.reply_to_next.Statement.{statement}
-use Rattle.vectors.proofs.reply_to_next.Tie as tie
+use Rattle.vectors.proofs.answer_next.Statement.{statement}
+use Rattle.vectors.proofs.answer_next.Tie as tie
 
 -- a buffer is as long with its first bytes read
 read-within : (l : ℕ) (a buffer : List ℕ) → length a ≡ length (take l buffer) → l ≤ length buffer → l ≤ length (a ++ drop l buffer)
@@ -46,21 +46,24 @@ slice-aggregate-read-full-2 c = sym (length-take-le _ _ (omega (arith, c .before
 read-full-requires-2 : tie.Need-read-full-requires-2
 read-full-requires-2 c κs = search needs
 
+array-read-answer-to : tie.Need-array-read-answer-to
+array-read-answer-to c = search needs
+
 array-share-prefix-input : tie.Need-array-share-prefix-input
 array-share-prefix-input c = read-within _ (c .before .read-full2 .last .1 .0) _ (c .before .read-full2 .kept .1 .0) (omega (arith, c .before .before .before .input-buffer .ensures))
 
-slice-aggregate-reply-to : tie.Need-slice-aggregate-reply-to
-slice-aggregate-reply-to c =
+slice-aggregate-answer-to : tie.Need-slice-aggregate-answer-to
+slice-aggregate-answer-to c =
     sym (length-take-le _ _ (read-within _ (c .before .before .read-full2 .last .1 .0) _ (c .before .before .read-full2 .kept .1 .0) (omega (arith, c .before .before .before .before .input-buffer .ensures))))
 
-reply-to-requires : tie.Need-reply-to-requires
-reply-to-requires c κs = search needs
+answer-to-requires : tie.Need-answer-to-requires
+answer-to-requires c κs = search needs
 
 returns-3 : tie.Need-returns-3
 returns-3 c = search needs
 
-pub reply-to-next-spec : {M : Type 1} → statement M
-reply-to-next-spec =
+pub answer-next-spec : {M : Type 1} → statement M
+answer-next-spec =
     tie.close
     (tie.spec
     slice-aggregate-read-full
@@ -74,7 +77,8 @@ reply-to-next-spec =
     array-borrow-prefix-input
     slice-aggregate-read-full-2
     read-full-requires-2
+    array-read-answer-to
     array-share-prefix-input
-    slice-aggregate-reply-to
-    reply-to-requires
+    slice-aggregate-answer-to
+    answer-to-requires
     returns-3)

@@ -1,0 +1,2 @@
+-- What the functions between the check and the page need and give.
+pub mod Layout

@@ -1,0 +1,7 @@
+-- Each demand, with its proof.
+use Rattle.report.specs.Demands.{Demands}
+use Rattle.report.proofs.Decimals.{decimals}
+use Rattle.report.proofs.Widths.{fields}
+
+pub demands : Demands
+demands = record { decimals = decimals; fields = fields }
