@@ -5,4 +5,5 @@ pub mod Printable
 pub mod Lines
 pub mod Asked
 pub mod Examples
+pub mod Unique
 pub mod Demands

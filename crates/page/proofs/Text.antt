@@ -90,12 +90,12 @@ entries-short c = spaced-short maxVars 0 c (omega arith)
 -- ---- what is shown
 
 -- the count, where the text is too long, and else the text
-shown-long : (es : List Entry) → ruleRoom < length (joined es) → shown es ≡ counted (length es)
+pub shown-long : (es : List Entry) → ruleRoom < length (joined es) → shown es ≡ counted (length es)
 unfolding shown
 shown-long [] h = absurd (omega arith)
 shown-long (e ∷ es) h = rw (lt-ltb ruleRoom (length (joined (e ∷ es))) h, shown)
 
-shown-fits : (e : Entry) (es : List Entry) → length (joined (e ∷ es)) ≤ ruleRoom → shown (e ∷ es) ≡ joined (e ∷ es)
+pub shown-fits : (e : Entry) (es : List Entry) → length (joined (e ∷ es)) ≤ ruleRoom → shown (e ∷ es) ≡ joined (e ∷ es)
 unfolding shown
 shown-fits e es h = rw (le-ltb ruleRoom (length (joined (e ∷ es))) h, shown)
 

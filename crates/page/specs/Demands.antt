@@ -1,5 +1,5 @@
 -- The demands on the page, each as a named type that is proved in `proofs/`. `pageOf` is the definition: the program and the exported function write just this.
--- Bytes are numbers: 10 is a line feed, 32 a blank, 45 a minus, 48 to 57 the digits 0 to 9.
+-- Bytes are numbers: 10 is a line feed, 32 a blank, 45 a minus, 48 to 57 the digits 0 to 9, and 122 a small z.
 use mathlib.Core.Path.{_≡_}
 use mathlib.Core.Bool.{true, false}
 use mathlib.Core.List.{List, [], _∷_, _++_, map, List·Memᴰ}
@@ -18,7 +18,7 @@ use Rattle.contract.specs.Filled.{answerOf}
 use Rattle.report.specs.Ascii.{ascii}
 use Rattle.report.specs.Text.{wordText}
 use Rattle.report.specs.Demands.{Decimal, AtLeft, AtRight}
-use Rattle.reply.specs.Reply.{places, orderIn, resultIn, readable}
+use Rattle.reply.specs.Reply.{places, orderIn, resultIn, textOf, replyTo, readable}
 use Rattle.reply.specs.Demands.{inputOf}
 use Rattle.page.specs.Entries.{Entry}
 use Rattle.page.specs.Page.{ruleLine, pageOf, pageTo, longest}
@@ -36,10 +36,13 @@ abbrev pub derivedOf : Result → List Clause
 derivedOf (refused k) = []
 derivedOf (ran r) = r .derived
 
--- the program's page is of the first program's check: refusal 1 where there is no whole order, and else that of the book after it, with 1,000,000 branchings
+-- the program's page is of the check whose outcome the first program prints: refusal 1 where there is no whole order, and else that of the book after it, with 1,000,000 branchings,
+-- 2,048 places for derived rules and 64 for records
 pub record SameCheck : Type 0 where
+  pub one : (bytes : List ℕ) → (x : Result) × Asked x × (replyTo bytes ≡ textOf x) × (pageTo bytes ≡ pageOf x)
   pub short : (bytes : List ℕ) → length bytes < 24 → pageTo bytes ≡ pageOf (refused 1)
   pub whole : (bytes : List ℕ) → 24 ≤ length bytes → pageTo bytes ≡ pageOf (check (drop 24 bytes) (orderIn bytes) 1000000 places)
+  pub tables : places ≡ record { pos = 2048; neg = 2048; decided = 64; trues = 64; redundant = 64 }
 
 -- no page depends on a byte past the readable part, so an input of any length has its own
 abbrev pub ReadableDecides : Type 0
@@ -52,15 +55,6 @@ pub record Lines (count : ℕ) (page : List ℕ) : Type 0 where
   pub size : length page ≡ 41 * count
   pub feeds : (i : ℕ) → i < length page → i % 41 ≡ 40 → getD page i 0 ≡ 10
   pub characters : (i : ℕ) → i < length page → i % 41 < 40 → (32 ≤ getD page i 0) × (getD page i 0 ≤ 122)
-
--- one line more than derived rules
-abbrev pub EveryLine : Type 0
-EveryLine = (x : Result) → Asked x → Lines (suc (length (derivedOf x))) (pageOf x)
-
--- a buffer of `longest` bytes, which is 41 × 2,049, is long enough
-pub record AlwaysFits : Type 0 where
-  pub most : longest ≡ 84009
-  pub fits : (x : Result) → Asked x → length (pageOf x) ≤ longest
 
 -- the characters of line i, from 0 on, and so many of them from a place on
 abbrev pub lineAt : ℕ → List ℕ → List ℕ
@@ -81,9 +75,6 @@ pub record FirstLine (a : Answer) (derived : ℕ) (line : List ℕ) : Type 0 whe
   pub number : NumberAt 10 (numberIn a) (fieldAt 10 10 line)
   pub branchings : NumberAt 10 (tallyIn a .branchings) (fieldAt 20 10 line)
   pub rules : NumberAt 10 derived (fieldAt 30 10 line)
-
-abbrev pub FirstLines : Type 0
-FirstLines = (x : Result) → Asked x → FirstLine (answerOf x) (length (derivedOf x)) (lineAt 0 (pageOf x))
 
 -- ---- the text of a rule
 
@@ -125,20 +116,36 @@ pub record RuleLine (number : ℕ) (c : Clause) (line : List ℕ) : Type 0 where
   pub shows : RuleText c text
   pub placed : AtLeft 35 text (fieldAt 5 35 line)
 
--- wherever c stands among the derived rules, its number there, from 1 on, is that of its line, and the line shows it
-abbrev pub RuleLines : Type 0
-RuleLines =
-    (x : Result) → Asked x → (before after : List Clause) (c : Clause) → derivedOf x ≡ before ++ (c ∷ after) →
-    RuleLine (suc (length before)) c (lineAt (suc (length before)) (pageOf x))
+-- ---- the page
+
+-- what is due of a page: one line more than derived rules, and what stands in them
+pub record Due (x : Result) (page : List ℕ) : Type 0 where
+  pub lines : Lines (suc (length (derivedOf x))) page
+  pub first : FirstLine (answerOf x) (length (derivedOf x)) (lineAt 0 page)
+  -- wherever c stands among the derived rules, its number there, from 1 on, is that of its line, and the line shows it
+  pub rules :
+      (before after : List Clause) (c : Clause) → derivedOf x ≡ before ++ (c ∷ after) →
+      RuleLine (suc (length before)) c (lineAt (suc (length before)) page)
+
+abbrev pub AsDue : Type 0
+AsDue = (x : Result) → Asked x → Due x (pageOf x)
+
+-- nothing is left open: no two texts are as is due
+abbrev pub OnePage : Type 0
+OnePage = (x : Result) (page other : List ℕ) → Due x page → Due x other → page ≡ other
+
+-- a buffer of `longest` bytes, which is 41 × 2,049, is long enough
+pub record AlwaysFits : Type 0 where
+  pub most : longest ≡ 84009
+  pub fits : (x : Result) → Asked x → length (pageOf x) ≤ longest
 
 -- ---- the exported function
 
--- what a caller takes from a buffer that was lent, and the length r: 0 exactly where the buffer might have been too short, and it is then as it was; else the page,
--- and every later byte as it was
+-- what a caller takes from a buffer that was lent, and from r: 0 exactly where the buffer might have been too short; else r is the length of the page, which stands at
+-- the start. Every byte from r on is as it was, and so all are where r is 0
 pub record Taken (page before after : List ℕ) (r : ℕ) : Type 0 where
   pub none : (r ≡ 0) ↔ (length before < 84009)
-  pub untouched : r ≡ 0 → after ≡ before
-  pub written : 0 < r → take r after ≡ page
+  pub written : 0 < r → (r ≡ length page) × (take r after ≡ page)
   pub later : (i : ℕ) → r ≤ i → getD after i 0 ≡ getD before i 0
   pub same-length : length after ≡ length before
 
@@ -151,14 +158,14 @@ Taking =
 
 -- pages and lines written out
 pub record Examples : Type 0 where
-  -- the example of docs/FORMAT.md: every kind of line
+  -- the example of docs/FORMAT.md: a verdict, a fitted entry, a left-out one, and the empty rule
   pub documented :
       pageTo (inputOf (0 ∷ 0 ∷ 0 ∷ []) 2 4 (3 ∷ 2 ∷ 1 ∷ 0 ∷ 0 ∷ 1 ∷ 2 ∷ 3 ∷ [])) ≡
       ascii "cannot             0         3         3\n   1 1                                  \n   2 -1                                 \n   3 none                               \n"
   pub nothing : pageTo [] ≡ ascii "refused            1         0         0\n"
   pub standard-above : pageTo (inputOf (0 ∷ 0 ∷ 2 ∷ []) 1 0 []) ≡ ascii "refused           12         0         0\n"
   pub can : pageTo (inputOf (1 ∷ 0 ∷ 0 ∷ []) 1 0 []) ≡ ascii "can                0         0         0\n"
-  -- the same book with two branchings, and so one derived rule
+  -- the book of the example with an allowance of 2, which is spent before the second rule
   pub stopped :
       pageOf (check (2 ∷ 4 ∷ 0 ∷ flat (3 ∷ 2 ∷ 1 ∷ 0 ∷ 0 ∷ 1 ∷ 2 ∷ 3 ∷ [])) (record { wanted = 0; unwanted = 0; standard = 0 }) 2 places) ≡
       ascii "stopped           10         2         1\n   1 1                                  \n"
@@ -173,9 +180,8 @@ pub record Examples : Type 0 where
 pub record Demands : Type 0 where
   pub same-check : SameCheck
   pub readable-decides : ReadableDecides
-  pub every-line : EveryLine
+  pub as-due : AsDue
+  pub one-page : OnePage
   pub always-fits : AlwaysFits
-  pub first-lines : FirstLines
-  pub rule-lines : RuleLines
   pub taking : Taking
   pub examples : Examples

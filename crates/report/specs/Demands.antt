@@ -21,6 +21,10 @@ pub record Decimal (n : ℕ) (digits : List ℕ) : Type 0 where
 abbrev pub Decimals : Type 0
 Decimals = (n : ℕ) → Decimal n (decimal n)
 
+-- and no others
+abbrev pub OneDecimal : Type 0
+OneDecimal = (n : ℕ) (digits others : List ℕ) → Decimal n digits → Decimal n others → digits ≡ others
+
 -- a text with nothing but blanks beside it, which fill up the width: at the left of its field
 pub record AtLeft (width : ℕ) (text field : List ℕ) : Type 0 where
   pub wide : length field ≡ width
@@ -38,6 +42,13 @@ pub record Fields : Type 0 where
   pub left : (width : ℕ) (text : List ℕ) → length text ≤ width → AtLeft width text (setLeft width text)
   pub right : (width : ℕ) (text : List ℕ) → length text ≤ width → AtRight width text (setRight width text)
 
+-- no other field has the text there
+pub record OneField : Type 0 where
+  pub left : (width : ℕ) (text field other : List ℕ) → AtLeft width text field → AtLeft width text other → field ≡ other
+  pub right : (width : ℕ) (text field other : List ℕ) → AtRight width text field → AtRight width text other → field ≡ other
+
 pub record Demands : Type 0 where
   pub decimals : Decimals
+  pub one-decimal : OneDecimal
   pub fields : Fields
+  pub one-field : OneField

@@ -22,7 +22,8 @@ impl Page {
             Some("can") => Kind::Can,
             Some("cannot") => Kind::Cannot,
             Some("refused") => Kind::Refused,
-            _ => Kind::Stopped,
+            Some("stopped") => Kind::Stopped,
+            other => panic!("no page begins with {other:?}"),
         };
         Page { kind, text }
     }
