@@ -11,7 +11,7 @@ use crate::put::put_number;
 use crate::put::put_text;
 
 // So many blanks.
-pub fn put_blanks(count: usize, out: &mut [u8], at: usize) -> usize
+fn put_blanks(count: usize, out: &mut [u8], at: usize) -> usize
     requires { ⌜ Room (now out) at (blanks count) ⌝ }
     ensures { λ r. ⌜ Wrote (now (out .entry)) at (blanks count) (now (out .exit)) r ⌝ }
 {
@@ -35,7 +35,7 @@ pub fn put_left(text: &[u8], width: usize, out: &mut [u8], at: usize) -> usize
 }
 
 // How many digits a number has.
-pub fn digits_of(n: u64) -> usize
+fn digits_of(n: u64) -> usize
     ensures { λ r. ⌜ r ≡ length (decimal n) ⌝ }
 {
     let mut digits: usize = 1;
