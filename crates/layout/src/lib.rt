@@ -17,7 +17,7 @@ use order::Order;
 mod lines;
 mod rule;
 
-// The page of an answer and of the derived rules in the first places of two tables, as many as are counted.
+// The page of an answer and of the derived rules in the first places of two tables, as many as are counted. It is public for crate `filing`, as is the next.
 pub fn put_page(a: Answer, pos: &[u64], neg: &[u64], out: &mut [u8]) -> usize
     requires { ⌜ Fit a (now pos) (now neg) ⌝ }
     requires { ⌜ longest ≤ length (now out) ⌝ }

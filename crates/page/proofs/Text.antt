@@ -1,4 +1,4 @@
--- The text of a rule: how long it can be, that it is printable, and that it reads as the rule's entries.
+-- The text of a rule: how long it can be, what is shown by its length, and that it reads as the rule's entries.
 use mathlib.Core.Path.{_≡_, refl, sym, ap, _∙_}
 use mathlib.Core.Bool.{Bool, true, false}
 use mathlib.Core.List.{List, [], _∷_, _++_, append-assoc, append-nil}

@@ -2,12 +2,13 @@
 -- printed from them are those of the definition.
 use mathlib.Core.Path.{_≡_, refl, sym, ap, ap₂, _∙_, subst⁻¹}
 use mathlib.Core.List.{List, map}
-use Prim.Native.Nat.{ℕ, _≤_, _<_}
+use Prim.Native.Nat.{ℕ, _-_, _≤_, _<_}
 use native.Mathlib.Omega.{arith}
 use borrow.Author.Tests.{lt-ltb, le-ltb}
-use lib.ListN.{length, take, drop, length-append, length-map}
-use lib.Seq.{take-at}
+use lib.ListN.{length, take, drop, length-append, length-drop, length-map}
+use lib.Seq.{take-all, take-at}
 use Rattle.steps.specs.Clause.{Clause, DSequent}
+use Rattle.order.specs.Order.{Order}
 use Rattle.answer.specs.Answer.{tallyOf, ofOutcome, tallyIn}
 use Rattle.answer.specs.declared.Tally.{Tally}
 use Rattle.answer.specs.declared.Answer.{Answer}
@@ -26,6 +27,14 @@ result-short l input h = rw (lt-ltb _ _ h, resultIn)
 pub result-checked : (l : Lengths) (input : List ℕ) → orderBytes ≤ length input → resultIn l input ≡ check (drop orderBytes input) (orderIn input) allowance l
 unfolding resultIn
 result-checked l input h = rw (le-ltb _ _ h, resultIn)
+
+-- as the code asks for it: the bytes from the order's end on, and an order that was read
+pub result-read :
+    (l : Lengths) (input : List ℕ) (o : Order) → orderBytes ≤ length input → o ≡ orderIn input →
+    check (take (length input - orderBytes) (drop orderBytes input)) o allowance l ≡ resultIn l input
+result-read l input o h e =
+    ap₂ (λ (bs : List ℕ) (x : Order). check bs x allowance l) (take-all (length input - orderBytes) (drop orderBytes input) (omega (arith, length-drop orderBytes input))) e
+    ∙ sym (result-checked l input h)
 
 -- the words of some elements, at the first places of a table: they fit, and as many places as there are elements hold them
 module _ {A : Type 0} (f : A → ℕ) (xs : List A) (t : List ℕ) (k : ℕ) (e : k ≡ length xs) where

@@ -63,7 +63,7 @@ pub fn respond(input: &[u8], out: &mut [u8]) -> usize
     report::write_outcome(found, &pos, &neg, &decided, &trues, &redundant, out)
 }
 
-// The order in the first bytes of an input.
+// The order in the first bytes of an input. It is public for the other program (crate `filing`), which shows that they are there.
 pub fn order_in(input: &[u8]) -> Order
     requires { ⌜ orderBytes ≤ length (now input) ⌝ }
     ensures { λ r. ⌜ orderOf r ≡ orderIn (now (input .entry)) ⌝ }

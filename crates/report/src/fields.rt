@@ -1,5 +1,5 @@
-// Fields of a fixed width in a buffer, filled up with blanks: a text at the left, a number at the right. Each function writes at a place and gives the place
-// after the field.
+// Fields of a fixed width in a buffer, filled up with blanks: a text at the left, a number at the right. Each function that writes does so at a place and gives the
+// place after the field. They are public for crate `layout`.
 ghost use mathlib.Core.Path.{_≡_};
 ghost use Prim.Native.Nat.{_≤_};
 ghost use lib.ListN.{length};

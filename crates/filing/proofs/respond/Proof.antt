@@ -1,15 +1,15 @@
 -- `filing::respond` meets its contract: it goes by the length, as the definition does. Assumes nothing.
-use mathlib.Core.Path.{_≡_, sym, ap₂, _∙_}
+use mathlib.Core.Path.{_≡_, sym, ap, _∙_}
 use mathlib.Core.List.{List}
 use Prim.Native.Nat.{ℕ, _-_, _≤_}
 use native.Mathlib.Omega.{arith}
-use lib.ListN.{length, take, drop, length-drop}
-use lib.Seq.{take-all}
+use lib.ListN.{length, take, drop}
 use borrow.Author.Needs.{needs}
 use Rattle.order.specs.Order.{Order}
 use Rattle.contract.specs.Check.{check}
 use Rattle.report.proofs.Writing.{printed-as}
 use Rattle.reply.specs.Reply.{allowance, places, orderBytes, orderIn}
+use Rattle.reply.proofs.Reply.{result-read}
 use Rattle.page.specs.Page.{pageOf, pageTo}
 use Rattle.page.proofs.Demands.{same-check}
 use Rattle.layout.proofs.Checked.{short-told}
@@ -20,10 +20,8 @@ use Rattle.filing.proofs.respond.Tie as tie
 whole :
     (input : List ℕ) (o : Order) → orderBytes ≤ length input → o ≡ orderIn input →
     pageOf (check (take (length input - orderBytes) (drop orderBytes input)) o allowance places) ≡ pageTo input
-whole input o h e =
-    ap₂ (λ (bs : List ℕ) (x : Order). pageOf (check bs x allowance places))
-    (take-all (length input - orderBytes) (drop orderBytes input) (omega (arith, length-drop orderBytes input))) e
-    ∙ sym (same-check .whole input h)
+unfolding pageTo
+whole input o h e = ap pageOf (result-read places input o h e)
 
 slice-aggregate-put-page : tie.Need-slice-aggregate-put-page
 slice-aggregate-put-page c = search needs

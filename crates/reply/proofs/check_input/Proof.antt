@@ -1,19 +1,18 @@
 -- `reply::check_input` meets its contract: it goes by the length, as the definition does. A refusal leaves the tables as they were, and the check of the book after the order does what it promises.
 -- Assumes nothing.
-use mathlib.Core.Path.{_≡_, ap, ap₂, sym, _∙_}
+use mathlib.Core.Path.{_≡_, ap, sym, _∙_}
 use Prim.Native.Nat.{ℕ, _-_, _≤_, _<_}
 use mathlib.Core.List.{List}
 use native.Mathlib.Omega.{arith}
-use lib.ListN.{length, take, drop, length-drop}
-use lib.Seq.{take-all}
+use lib.ListN.{length, take, drop}
 use Rattle.order.specs.Order.{Order}
 use Rattle.answer.specs.declared.Answer.{Answer}
 use Rattle.answer.specs.declared.Answer.the-variants.{Refused}
 use Rattle.contract.specs.Check.{Result, check}
 use Rattle.contract.specs.Filled.{Tables, lent, lengths, answerOf, filled, Checked}
 use borrow.Author.Needs.{needs}
-use Rattle.reply.specs.Reply.{allowance, orderBytes, orderIn, resultIn, Answered}
-use Rattle.reply.proofs.Reply.{result-short, result-checked}
+use Rattle.reply.specs.Reply.{allowance, orderBytes, orderIn, Answered}
+use Rattle.reply.proofs.Reply.{result-short, result-read}
 use Rattle.reply.proofs.check_input.Statement.{statement}
 use Rattle.reply.proofs.check_input.Tie as tie
 
@@ -29,13 +28,9 @@ module _ (input : List ℕ) (before : Tables) where
   order-and-book :
       (o : Order) (r : Answer) (after : Tables) → orderBytes ≤ length input → o ≡ orderIn input →
       Checked (take (length input - orderBytes) (drop orderBytes input)) o allowance before r after → Answered input before r after
-  order-and-book o r after h e done = record { answer = done .answer ∙ ap answerOf same; tables = done .tables ∙ ap (λ (x : Result). filled x before) same }
-    where
-      same : check (take (length input - orderBytes) (drop orderBytes input)) o allowance (lengths before) ≡ resultIn (lengths before) input
-      same =
-          ap₂ (λ (bs : List ℕ) (x : Order). check bs x allowance (lengths before))
-          (take-all (length input - orderBytes) (drop orderBytes input) (omega (arith, length-drop orderBytes input))) e
-          ∙ sym (result-checked (lengths before) input h)
+  order-and-book o r after h e done =
+      let same = result-read (lengths before) input o h e in
+      record { answer = done .answer ∙ ap answerOf same; tables = done .tables ∙ ap (λ (x : Result). filled x before) same }
 
 -- the function's arguments, and the lent tables
 abbrev start : tie.After-slice-known5 → tie.Start
