@@ -1,10 +1,12 @@
-// The check, the page, the morning, open options and the terminal for C and Rust: exported functions on numbers and slices (rust/optcheck/include/optcheck.h is their header).
+// The check, the page, the morning, open options, the terminal and the desk for C and Rust: exported functions on numbers and slices (rust/optcheck/include/optcheck.h is their header).
 ghost use Rattle.contract.specs.Filled.{lent};
 ghost use Rattle.page.specs.Filed.{Filed};
 ghost use Rattle.morning.specs.Morning.{Serves};
 ghost use Rattle.undecided.specs.Told.{Told};
 ghost use Rattle.sites.specs.Handed.{terminalOf, HandsOpening, HandsSite};
+ghost use Rattle.drafts.specs.Desk.{Makes, Alters, Call.set, Call.clear, Call.keep, Call.return};
 ghost use Rattle.optcheck_c.specs.Exported.{Exported};
+use drafts::Desk;
 use order::Order;
 use sites::Opening;
 use sites::Terminal;
@@ -178,4 +180,46 @@ pub extern "C" fn optcheck_site(
     *left = next.left;
     *sites = next.sites;
     answer::word_of(told)
+}
+
+// Makes a fresh desk for so many options (crate `desk`): 0; or 2, and it is the fresh desk for none. All of `desk` is written.
+#[no_mangle]
+pub extern "C" fn optcheck_desk_fresh(options: u32, desk: &mut Desk) -> u32
+    ensures { λ r. ⌜ Makes options r (now (desk .exit)) ⌝ }
+{
+    let done = desk::fresh(options);
+    *desk = done.desk;
+    done.answer
+}
+
+// Sets a wish for an option: it is to be fitted, or to be left out. 0, or 7, and nothing is changed.
+#[no_mangle]
+pub extern "C" fn optcheck_desk_set(desk: &mut Desk, option: u32, fitted: bool) -> u32
+    ensures { λ r. ⌜ Alters (now (desk .entry)) (set option fitted) r (now (desk .exit)) ⌝ }
+{
+    desk::set(desk, option, fitted)
+}
+
+// Clears the wish for an option: 0, or 7, and nothing is changed.
+#[no_mangle]
+pub extern "C" fn optcheck_desk_clear(desk: &mut Desk, option: u32) -> u32
+    ensures { λ r. ⌜ Alters (now (desk .entry)) (clear option) r (now (desk .exit)) ⌝ }
+{
+    desk::clear(desk, option)
+}
+
+// Keeps the order as a draft: 0, or 14, and nothing is changed.
+#[no_mangle]
+pub extern "C" fn optcheck_desk_keep(desk: &mut Desk, draft: u32) -> u32
+    ensures { λ r. ⌜ Alters (now (desk .entry)) (keep draft) r (now (desk .exit)) ⌝ }
+{
+    desk::keep(desk, draft)
+}
+
+// Returns to a draft: 0, or 14 or 15, and nothing is changed.
+#[no_mangle]
+pub extern "C" fn optcheck_desk_return(desk: &mut Desk, draft: u32) -> u32
+    ensures { λ r. ⌜ Alters (now (desk .entry)) (return draft) r (now (desk .exit)) ⌝ }
+{
+    desk::return_to(desk, draft)
 }

@@ -1,11 +1,12 @@
 //! The proved static library as a checker.
 
-use crate::lent::{morning, open, page, sites, terminal, Lent};
-use crate::question::{after_text, first_difference, in_turn, tried_text, Question};
-use crate::question::{Check, Morning, Open, Page, Sites, Terminal};
+use crate::lent::{desk, morning, open, page, sites, terminal, Lent};
+use crate::question::{after_text, answers_text, first_difference, in_turn, state_text};
+use crate::question::{tried_text, Question};
+use crate::question::{Check, Desk, Morning, Open, Page, Sites, State, Terminal};
 use crate::under_test::UnderTest;
-use optcheck::Site;
-use port::{Outcome, Places};
+use optcheck::{DeskWords, Site};
+use port::{Call, Outcome, Places};
 
 /// The library, with this rubbish in the tables that it is lent.
 pub struct Library {
@@ -25,7 +26,9 @@ impl UnderTest for Library {
             Question::Morning(_)
             | Question::Open(_)
             | Question::Sites(_)
-            | Question::Terminal(_) => true,
+            | Question::Terminal(_)
+            | Question::Desk(_)
+            | Question::State(_) => true,
         }
     }
 
@@ -37,6 +40,8 @@ impl UnderTest for Library {
             Question::Sites(sites) => self.sites(sites),
             Question::Terminal(terminal) => self.terminal(terminal),
             Question::Page(page) => self.page(page),
+            Question::Desk(desk) => self.desk(desk),
+            Question::State(state) => self.state(state),
         }
     }
 }
@@ -117,6 +122,26 @@ impl Library {
         page::lend(self.rubbish, |bytes| {
             optcheck::page_bytes(book, order, question.allowance, bytes)
         })
+    }
+
+    fn desk(&self, question: &Desk) -> Result<String, String> {
+        let answers = desk::lend(question, self.rubbish, optcheck::desk_fresh_words, call)?;
+        Ok(answers_text(&answers))
+    }
+
+    fn state(&self, question: &State) -> Result<String, String> {
+        let after = desk::lend_once(question, self.rubbish, call)?;
+        Ok(state_text(&after))
+    }
+}
+
+/// A call on a desk.
+fn call(desk: &mut DeskWords, call: Call) -> u32 {
+    match call {
+        Call::Set { option, fitted } => optcheck::desk_set_words(desk, option, fitted),
+        Call::Clear { option } => optcheck::desk_clear_words(desk, option),
+        Call::Keep { draft } => optcheck::desk_keep_words(desk, draft),
+        Call::Return { draft } => optcheck::desk_return_words(desk, draft),
     }
 }
 

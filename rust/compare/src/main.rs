@@ -5,6 +5,7 @@
 mod allowances;
 mod bench;
 mod choices;
+mod desks;
 mod differential;
 mod fields;
 mod framed;
@@ -37,8 +38,8 @@ use under_test::{Port, Program, UnderTest};
 
 const USAGE: &str = "\
 compare differential [--program PATH [--page-program PATH]] [--seed S] [--books N] [--solver NAME]
-    generated books, mornings, open options, sites and pages through the checker and the port, each
-    verdict on a book also by an outside solver
+    generated books, mornings, open options, sites, pages and desks through the checker and the port,
+    each verdict on a book also by an outside solver
 compare vectors FILE... [--program PATH [--page-program PATH]]
     the cases of these files through the checker and the port
 compare allowances
@@ -59,8 +60,8 @@ The outside solver is the first installed of minisat, cadical and picosat, if NA
 const SEED: u64 = 1;
 const BOOKS: usize = 4000;
 
-/// What the lent tables hold before a run; for mornings, open options, sites and pages, its complement in
-/// turn with it.
+/// What the lent tables hold before a run; for mornings, open options, sites, pages and desks, its complement
+/// in turn with it.
 const RUBBISH: u64 = 0xa5a5_5a5a_a5a5_5a5a;
 
 /// The words of the command line after the subcommand.
@@ -138,6 +139,9 @@ fn differential(words: &Words) -> Result<(), String> {
         print!("{}", tally.told());
     }
     if let Some(tally) = pages::run(&mut tested, seed, pages::beside(books))? {
+        print!("{}", tally.told());
+    }
+    if let Some(tally) = desks::run(&mut tested, seed, desks::beside(books))? {
         print!("{}", tally.told());
     }
     println!("no difference, in {:.1} s", start.elapsed().as_secs_f64());

@@ -71,7 +71,9 @@ impl Program {
             | Question::Open(_)
             | Question::Sites(_)
             | Question::Terminal(_)
-            | Question::Page(_) => None,
+            | Question::Page(_)
+            | Question::Desk(_)
+            | Question::State(_) => None,
         }
     }
 }
@@ -95,7 +97,7 @@ mod tests {
     use super::*;
     use crate::kinds::case;
     use crate::question::{Check, Page};
-    use crate::{mornings, terminals, undecided};
+    use crate::{desks, mornings, terminals, undecided};
 
     fn program(path: &str, page: Option<&str>) -> Program {
         Program { path: path.to_string(), page: page.map(str::to_string) }
@@ -148,5 +150,7 @@ mod tests {
         assert!(!program.takes(&undecided::open(1, 1).into()));
         assert!(!program.takes(&terminals::sites(1, 1).into()));
         assert!(!program.takes(&terminals::terminal(1, 1).into()));
+        assert!(!program.takes(&desks::desk(1, 1).into()));
+        assert!(!program.takes(&desks::state(1, 1).into()));
     }
 }

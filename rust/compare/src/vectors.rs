@@ -1,7 +1,7 @@
 //! Files of cases with the answer that must be given to each: `case NAME`, the question, `out`, the
 //! lines of the answer, `end`. The question is `in HEX` or `page HEX`, all of standard input of a
-//! program, or a line that names it with its fields on the lines after it. Each checker must print the
-//! answer text for text.
+//! program, `desk N` with its calls on the lines after it, or a line that names it with its fields on
+//! the lines after it. Each checker must print the answer text for text.
 
 use crate::fields::key_and_value;
 use crate::question::{first_difference, Question};
@@ -10,7 +10,7 @@ use std::collections::BTreeMap;
 use std::fmt::Write;
 
 /// Questions of the format that no checker answers yet.
-const NOT_YET: [&str; 4] = ["desk", "join", "turns", "cheapest"];
+const NOT_YET: [&str; 3] = ["join", "turns", "cheapest"];
 
 /// A case: its name, what is asked, and what must be printed.
 struct Vector {
@@ -195,6 +195,10 @@ mod tests {
                         cannot             0         1         1\n\
                         \x20  1 none                               \nend\n";
 
+    /// A draft is kept and another wish set; the option of the last call is above n.
+    const DESK: &str = "case desk\ndesk 2\nset 1 fitted\nkeep 3\nset 2 out\nset 3 out\nout\n\
+                        0\n0\n0\n0\n7\norder 1 2\ndraft 3 1 0\nend\n";
+
     fn through_the_port(text: &str) -> Result<(Score, String), String> {
         run(&mut [Box::new(Port)], text)
     }
@@ -287,11 +291,20 @@ mod tests {
     }
 
     #[test]
+    fn a_desks_numbers_stand_before_its_order_and_its_drafts() {
+        let (score, told) = through_the_port(DESK).unwrap();
+        assert_eq!((score.agree, told.as_str()), (1, ""));
+        let (_, told) = through_the_port(&DESK.replace("draft 3 1 0", "draft 3 1 2")).unwrap();
+        let due = "line 7 is `draft 3 1 0`, due is `draft 3 1 2`";
+        assert_eq!(told, format!("case desk differs, port: {due}\n"));
+    }
+
+    #[test]
     fn what_is_not_known_yet_is_skipped_by_name() {
-        let desk = "case a desk\ndesk 3\nset 1 fitted\nout\n0\n0\norder 1 0\nend\n";
-        let (score, told) = through_the_port(&format!("{SMALL}{desk}")).unwrap();
+        let turns = "case a turn\nturns\nbook 000000\norder 0 0 0\nout\nforced\nend\n";
+        let (score, told) = through_the_port(&format!("{SMALL}{turns}")).unwrap();
         assert_eq!(score, Score { agree: 1, differ: Vec::new(), skipped: 1 });
-        assert_eq!(told, "skipped, `desk` is not known yet (1): a desk\n");
+        assert_eq!(told, "skipped, `turns` is not known yet (1): a turn\n");
     }
 
     #[test]
@@ -326,6 +339,8 @@ mod tests {
             ("sites.txt", 250),
             ("page.txt", 250),
             ("page_lines.txt", 80),
+            ("desk.txt", 250),
+            ("desk_more.txt", 50),
         ];
         for (file, cases) in files {
             let text = std::fs::read_to_string(format!("{folder}/{file}")).unwrap();

@@ -1,7 +1,7 @@
 //! How the tool ends: what a verb prints with its status, or what failed.
 
 use optbook::engine::{Kind, Unlinked};
-use std::fmt;
+use std::{fmt, io};
 
 /// The status on a bad command line.
 pub const USAGE: i32 = 64;
@@ -23,6 +23,7 @@ pub enum Failure {
     Usage(String),
     Mistake(String),
     Unlinked,
+    Unwritten(io::Error),
 }
 
 /// The status of a check: 0 can, 1 cannot, 2 refused, 3 stopped.
@@ -48,6 +49,7 @@ impl Failure {
             Failure::Usage(_) => USAGE,
             Failure::Mistake(_) => MISTAKE,
             Failure::Unlinked => UNLINKED,
+            Failure::Unwritten(_) => UNWRITTEN,
         }
     }
 }
@@ -65,6 +67,7 @@ impl fmt::Display for Failure {
             Failure::Unlinked => f.write_str(
                 "built without the proved library, so it checks nothing: build it with ./check",
             ),
+            Failure::Unwritten(error) => write!(f, "standard output: {error}"),
         }
     }
 }

@@ -3,9 +3,12 @@
 //! `sheet` reads the readable form with the line of each `mistake`, and `text` writes it; `bytes` and
 //! `dimacs` are the two other forms of a book. `engine` is the proved check of an order, of several, of
 //! one with open options, or of sites that share one allowance, and the page of one, `outcome` tells what
-//! it found with the options' names, and `explain` looks for the reason of a `cannot`.
+//! it found with the options' names, and `explain` looks for the reason of a `cannot`. `desk` is the library's
+//! desk, `session` what is done at it, and `command` reads what is asked for there.
 
 pub mod bytes;
+pub mod command;
+pub mod desk;
 pub mod dimacs;
 pub mod engine;
 pub mod explain;
@@ -13,6 +16,7 @@ pub mod explain;
 mod lent;
 pub mod mistake;
 pub mod outcome;
+pub mod session;
 pub mod sheet;
 pub mod text;
 

@@ -4,6 +4,7 @@
 mod arguments;
 mod ending;
 mod files;
+mod lines;
 mod verbs;
 mod waiting;
 
@@ -19,7 +20,7 @@ fn main() {
         Err(word) => end(Failure::Usage(format!("{} is not UTF-8", word.display())), None),
     };
     let Some((name, words)) = words.split_first() else {
-        eprint!("{}", verbs::help());
+        let _ = io::stderr().write_all(verbs::help().as_bytes());
         process::exit(ending::USAGE);
     };
     if is_help(name) || name == "help" {
@@ -47,22 +48,20 @@ fn is_help(word: &str) -> bool {
 fn print(printed: Printed) -> ! {
     let written = io::stdout().write_all(&printed.bytes).and_then(|()| io::stdout().flush());
     match written {
-        Err(error) if error.kind() != ErrorKind::BrokenPipe => {
-            eprintln!("optbook: standard output: {error}");
-            process::exit(ending::UNWRITTEN);
-        }
+        Err(error) if error.kind() != ErrorKind::BrokenPipe => end(Failure::Unwritten(error), None),
         _ => process::exit(printed.status),
     }
 }
 
-/// Tells a failure, once, and ends.
+/// Tells a failure, once, and ends. That nobody hears it is no other failure.
 fn end(failure: Failure, verb: Option<&Verb>) -> ! {
-    eprintln!("optbook: {failure}");
+    let mut told = format!("optbook: {failure}\n");
     if let Failure::Usage(_) = failure {
-        match verb {
-            Some(verb) => eprintln!("usage: {}", verb.usage()),
-            None => eprintln!("`optbook --help` tells more"),
-        }
+        told += &match verb {
+            Some(verb) => format!("usage: {}\n", verb.usage()),
+            None => "`optbook --help` tells more\n".to_string(),
+        };
     }
+    let _ = io::stderr().write_all(told.as_bytes());
     process::exit(failure.status());
 }

@@ -20,6 +20,8 @@ fn reason(number: u32) -> &'static str {
         11 => "a new derived rule is due and all its places are full",
         12 => "a standard option is above the book's last",
         13 => "the number of orders is not 1 to 16",
+        14 => "the draft's number is not 1 to 16",
+        15 => "that draft was never kept",
         19 => "more than 10 options are open, or one is above the book's last",
         20 => "an open option is also wanted or unwanted",
         21 => "the number of sites is not 1 to 8",
@@ -47,9 +49,14 @@ pub fn ending(answer: Answer) -> String {
         Kind::Cannot => {
             "cannot be built: no choice of options keeps every rule and wish".to_string()
         }
-        Kind::Refused => format!("refused, number {number}: {reason}"),
+        Kind::Refused => refusal(number),
         Kind::Stopped => format!("stopped without a verdict, number {number}: {reason}"),
     }
+}
+
+/// A refusal, by its number.
+pub fn refusal(number: u32) -> String {
+    format!("refused, number {number}: {}", reason(number))
 }
 
 fn counts(answer: Answer) -> String {
@@ -108,6 +115,9 @@ mod tests {
         assert_eq!(told(Kind::Refused, 12), twelve);
         let thirteen = "refused, number 13: the number of orders is not 1 to 16";
         assert_eq!(told(Kind::Refused, 13), thirteen);
+        let fourteen = "refused, number 14: the draft's number is not 1 to 16";
+        assert_eq!(refusal(14), fourteen);
+        assert_eq!(refusal(15), "refused, number 15: that draft was never kept");
         let nineteen =
             "refused, number 19: more than 10 options are open, or one is above the book's last";
         assert_eq!(told(Kind::Refused, 19), nineteen);

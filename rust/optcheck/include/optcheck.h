@@ -2,18 +2,20 @@
  * The option book checker, for C. One call checks an order against a book, writes the outcome into
  * tables that the caller lends, and returns the answer as one word; another checks several orders
  * of one book; a third checks an order with every setting of options that are left open; two more
- * serve sites, one a call, that share one allowance; the last writes the outcome as a page of text.
+ * serve sites, one a call, that share one allowance; another writes the outcome as a page of text;
+ * and the last five make and alter a desk, which has an order and drafts of it to come back to.
  * Every length is permitted: a bad one is a refusal, and a page that is too short stays as it was.
  *
  * The book, the orders, the answers, each table and the page are a pointer and a length in
- * elements, and a verdict, a setting and the numbers of a terminal are pointers. No two of them
- * overlap; the book and the orders are only read. A pointer with the length 0 is not used, and must
- * not be null.
+ * elements, and a verdict, a setting, the numbers of a terminal and a desk are pointers. No two of
+ * them overlap; the book and the orders are only read. A pointer with the length 0 is not used, and
+ * must not be null.
  */
 
 #ifndef OPTCHECK_H
 #define OPTCHECK_H
 
+#include <stdbool.h>
 #include <stddef.h>
 #include <stdint.h>
 
@@ -21,8 +23,8 @@
 extern "C" {
 #endif
 
-/* The limits of a book, of the lent tables, of a morning, of open options and of a terminal, and the
- * lengths of a page. */
+/* The limits of a book, of the lent tables, of a morning, of open options, of a terminal and of a
+ * desk, and the lengths of a page. */
 #define OPTCHECK_OPTIONS 64u
 #define OPTCHECK_RULES 1024u
 #define OPTCHECK_DERIVED_PLACES 2048u /* pos and neg: equal lengths, at most this */
@@ -30,6 +32,7 @@ extern "C" {
 #define OPTCHECK_ORDERS 16u           /* a morning: at least one order, at most this */
 #define OPTCHECK_OPEN 10u             /* open options: at most this */
 #define OPTCHECK_SITES 8u             /* a terminal: at least one site, at most this */
+#define OPTCHECK_DRAFTS 16u           /* a desk: its drafts are 1 to this */
 #define OPTCHECK_PAGE_LINE 41u        /* a page: the bytes of a line */
 #define OPTCHECK_PAGE_BYTES 84009u    /* the longest page: a line, and one for each derived rule */
 
@@ -169,6 +172,56 @@ size_t optcheck_page(
     uint64_t wanted, uint64_t unwanted, uint64_t standard, uint32_t allowance,
     uint8_t *page, size_t page_len);
 
+/*
+ * A desk for up to OPTCHECK_OPTIONS options: the current order, and drafts 1 to OPTCHECK_DRAFTS.
+ * Option k is bit k - 1 of a word, draft d is bit d - 1 of `kept` and place d - 1 of the two arrays.
+ */
+typedef struct {
+    uint32_t options;
+    uint64_t wanted;
+    uint64_t unwanted;
+    uint64_t kept;
+    uint64_t draft_wanted[16];
+    uint64_t draft_unwanted[16];
+} optcheck_desk;
+
+/*
+ * The calls below return 0 or the number of a refusal. A refused call changes nothing of the desk,
+ * and an accepted one nothing but what is said of it. Any values may stand in a desk, even such that
+ * no run of calls leads to: bits above the last option, above the last draft and of drafts that are
+ * not kept stay as they are.
+ *
+ * After any run of calls from a fresh desk no option is above the last and none is both wanted and
+ * unwanted, so that a check of its order is never refused with 7 or 8.
+ */
+
+/*
+ * Writes a fresh desk for so many options, whatever stood there: an empty order, no draft kept, and
+ * all words 0. Where options is over OPTCHECK_OPTIONS, it writes that for no options and returns 2.
+ */
+uint32_t optcheck_desk_fresh(uint32_t options, optcheck_desk *desk);
+
+/*
+ * Sets a wish: the option is wanted where `fitted`, and else unwanted, and is no longer the other.
+ * 7 where it is 0, above the desk's options, or above OPTCHECK_OPTIONS.
+ */
+uint32_t optcheck_desk_set(optcheck_desk *desk, uint32_t option, bool fitted);
+
+/* Clears a wish: the option is neither wanted nor unwanted. 7 as of optcheck_desk_set. */
+uint32_t optcheck_desk_clear(optcheck_desk *desk, uint32_t option);
+
+/*
+ * Keeps the current order as the draft with this number, in place of what was kept under it. 14
+ * where it is not 1 to OPTCHECK_DRAFTS.
+ */
+uint32_t optcheck_desk_keep(optcheck_desk *desk, uint32_t draft);
+
+/*
+ * Returns to a draft: the current order is the one that was last kept under this number, and the
+ * draft stays kept. 14 as of optcheck_desk_keep, which is judged first; 15 where it was never kept.
+ */
+uint32_t optcheck_desk_return(optcheck_desk *desk, uint32_t draft);
+
 /* The kinds of an answer. */
 #define OPTCHECK_CAN 0u
 #define OPTCHECK_CANNOT 1u
@@ -191,7 +244,7 @@ static inline unsigned optcheck_kind(uint64_t answer) { return (unsigned)(answer
 /*
  * 0 for a verdict, 1 to 9 or 12 refused (12: a standard option above the book's last), 10 or 11
  * stopped. 19 and 20 are refusals of optcheck_undecided alone, and 21 one of optcheck_site alone.
- * 13 is no answer's number: a morning that is refused has no answers.
+ * 13, 14 and 15 are no answer's numbers: a morning that is refused has no answers, nor has a desk.
  */
 static inline unsigned optcheck_number(uint64_t answer) { return (unsigned)(answer >> 2 & 63); }
 

@@ -1,8 +1,9 @@
 //! A safe wrapper over the proved checker's static library (include/optcheck.h). `check`, `morning`,
-//! `undecided`, `sites`, `Terminal` and `page` are there with the feature `proved`; without it nothing is
-//! linked.
+//! `undecided`, `sites`, `Terminal`, `page` and `Desk` are there with the feature `proved`; without it
+//! nothing is linked.
 
 mod answer;
+mod desk;
 #[cfg(feature = "proved")]
 mod library;
 mod order;
@@ -10,8 +11,13 @@ mod page;
 mod tried;
 
 pub use answer::{Answer, Kind};
+pub use desk::{DeskWords, DRAFTS};
 #[cfg(feature = "proved")]
 pub use library::{check, check_word, morning, morning_words, undecided, undecided_words};
+#[cfg(feature = "proved")]
+pub use library::{desk_clear_words, desk_fresh_words, desk_keep_words, desk_return_words};
+#[cfg(feature = "proved")]
+pub use library::{desk_set_words, Desk};
 #[cfg(feature = "proved")]
 pub use library::{page, page_bytes};
 #[cfg(feature = "proved")]

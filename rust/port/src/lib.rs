@@ -4,10 +4,13 @@
 //! `check` takes a book's bytes, an order, the lent places and an allowance, and gives the outcome.
 //! `morning` takes several orders of one book, and gives the outcome of each. `undecided` takes an order
 //! with open options, and tries every setting of them. `sites` takes several orders of one book that
-//! share one allowance. `page` makes the page of an outcome. `run_program` does what the program does with
-//! its standard input.
+//! share one allowance. `page` makes the page of an outcome. `Desk` is an order with drafts to come back to,
+//! as the list of its calls, and `DeskWords` what a call does to a desk of any words. `run_program` does what
+//! the program does with its standard input.
 
 mod book;
+mod desk;
+mod desk_words;
 mod morning;
 mod outcome;
 mod page;
@@ -18,6 +21,8 @@ mod steps;
 mod undecided;
 mod words;
 
+pub use desk::{Call, Desk, Standing};
+pub use desk_words::DeskWords;
 pub use morning::{morning, Morning};
 pub use outcome::{Ending, Outcome, CAN, CANNOT};
 pub use page::page;

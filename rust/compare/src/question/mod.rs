@@ -3,17 +3,21 @@
 //! (under_test.rs, library.rs) says whether it takes it.
 
 mod check;
+mod desk;
 mod morning;
 mod open;
 mod page;
 mod sites;
+mod state;
 mod terminal;
 
 pub use check::{Check, ORDER};
+pub use desk::{answers_text, Answers, Desk};
 pub use morning::Morning;
 pub use open::{tried_text, verdict_name, Open};
 pub use page::Page;
 pub use sites::{Site, Sites};
+pub use state::{state_text, State};
 pub use terminal::{after_text, After, Terminal};
 
 use crate::fields::key_and_value;
@@ -29,11 +33,13 @@ pub enum Question {
     Sites(Sites),
     Terminal(Terminal),
     Page(Page),
+    Desk(Desk),
+    State(Box<State>),
 }
 
 impl Question {
-    /// The question of these lines: `in` or `page` and all of standard input, or its name and then its
-    /// fields.
+    /// The question of these lines: `in` or `page` and all of standard input, `desk` and the number of
+    /// options with a line for each call, or its name and then its fields.
     pub fn read(lines: &[&str]) -> Result<Question, String> {
         let (first, fields) = lines.split_first().ok_or("there is no question")?;
         match key_and_value(first) {
@@ -45,6 +51,8 @@ impl Question {
             ("terminal", "") => Ok(Terminal::read(fields)?.into()),
             ("page", hex) if fields.is_empty() => Ok(Page::of_program(bytes(hex)?).into()),
             ("filed", "") => Ok(Page::read(fields)?.into()),
+            ("desk", options) => Ok(Desk::read(options, fields)?.into()),
+            ("state", "") => Ok(State::read(fields)?.into()),
             (key, _) => Err(format!("`{key}` is no question")),
         }
     }
@@ -58,6 +66,8 @@ impl Question {
             Question::Sites(sites) => in_turn(&sites.port_outcomes()),
             Question::Terminal(terminal) => after_text(&terminal.port_after()),
             Question::Page(page) => page.port_page(),
+            Question::Desk(desk) => answers_text(&desk.port_answers()),
+            Question::State(state) => state_text(&state.port_after()),
         }
     }
 }
@@ -95,6 +105,18 @@ impl From<Terminal> for Question {
 impl From<Page> for Question {
     fn from(page: Page) -> Question {
         Question::Page(page)
+    }
+}
+
+impl From<Desk> for Question {
+    fn from(desk: Desk) -> Question {
+        Question::Desk(desk)
+    }
+}
+
+impl From<State> for Question {
+    fn from(state: State) -> Question {
+        Question::State(Box::new(state))
     }
 }
 

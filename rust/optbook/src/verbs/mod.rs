@@ -2,6 +2,7 @@
 
 mod bytes;
 mod check;
+mod desk;
 mod dimacs;
 mod explain;
 mod from_dimacs;
@@ -23,6 +24,7 @@ pub const VERBS: &[Verb] = &[
     sites::VERB,
     explain::VERB,
     page::VERB,
+    desk::VERB,
     bytes::VERB,
     text::VERB,
     dimacs::VERB,
@@ -69,8 +71,8 @@ pub fn help() -> String {
 
 const FORM: &str = "
 BOOK and ORDER are readable texts, which are read one after the other; - is standard input. ORDERS
-are several such texts, each read after BOOK, and NAMES are names of options. `optbook VERB --help`
-tells more of a verb. A text has one thing a line:
+are several such texts, each read after BOOK, and NAMES are names of options; FILE of desk has commands.
+`optbook VERB --help` tells more of a verb. A text has one thing a line:
 
   options: ring_main twin_header third_vessel
   ring_main | twin_header | !third_vessel      # a rule; ! says left out
@@ -82,5 +84,6 @@ Exit status: check, explain and page end with 0 where the order can be built, 1 
 where the checker refuses it, 3 where it stops without a verdict, and morning and sites with the highest
 of their orders; open with 0 where every setting can be built, 1 where none can, 2 and 3 likewise, and 4
 where some can but not all; the other verbs with 0. All end with 64 on a bad command line, with 65 where
-what is read has a mistake or cannot be read, and with 74 where the output cannot be written.
+what is read has a mistake or cannot be read, and with 74 where the output cannot be written. desk goes on
+after a mistake in its commands: at a terminal it ends with 0, and otherwise then with 65.
 ";

@@ -3,13 +3,14 @@
 
 use crate::run::{optbook, CAN, PLANT};
 
-const VERBS: [&str; 10] = [
+const VERBS: [&str; 11] = [
     "check",
     "morning",
     "open",
     "sites",
     "explain",
     "page",
+    "desk",
     "bytes",
     "text",
     "dimacs",
@@ -127,6 +128,15 @@ fn a_mistake_in_the_names_of_open_options_is_told() {
 }
 
 #[test]
+fn a_mistake_in_the_book_of_a_desk_is_told_before_a_command_is_read() {
+    let ended = optbook(&["desk", "-", "no-such-file"], b"options: a\nwant: b\n");
+    let due = "optbook: standard input: line 2: no option is named `b`: expected a name of an \
+               `options:` line\n";
+    assert_eq!((ended.said.as_str(), ended.status), (due, 65));
+    assert!(ended.printed.is_empty());
+}
+
+#[test]
 fn what_cannot_be_read_is_told_with_its_file() {
     let ended = optbook(&["bytes", "no-such-file"], b"");
     assert!(ended.said.starts_with("optbook: no-such-file: "), "{}", ended.said);
@@ -169,6 +179,14 @@ fn a_bad_command_line_ends_with_64_and_says_how() {
             &["page", PLANT, "--allowance", "-1"],
             "`--allowance -1`: expected a number from 0 to 4294967295",
         ),
+        (&["desk"], "0 files are given: expected 1 at least and 2 at most"),
+        (&["desk", PLANT, CAN, CAN], "3 files are given: expected 1 at least and 2 at most"),
+        (&["desk", "-", "-"], "`-` stands twice: standard input is read once"),
+        (
+            &["desk", "-"],
+            "`-` is BOOK, and the commands come from standard input too: expected FILE",
+        ),
+        (&["desk", PLANT, "--drafts", "3"], "`--drafts` is unknown here"),
         (&["check", "-", "-"], "`-` stands twice: standard input is read once"),
         (&["bytes", PLANT, "--places", "1"], "`--places` is unknown here"),
         (
@@ -212,7 +230,7 @@ fn the_help_has_an_example_of_each_verb() {
 #[cfg(not(feature = "proved"))]
 #[test]
 fn without_the_library_nothing_is_checked() {
-    for verb in ["check", "morning", "open", "sites", "explain", "page"] {
+    for verb in ["check", "morning", "open", "sites", "explain", "page", "desk"] {
         let ended = optbook(&[verb, PLANT, CAN], b"");
         assert!(ended.said.starts_with("optbook: built without the proved library"));
         assert_eq!((ended.status, ended.printed.len()), (69, 0));

@@ -1,6 +1,7 @@
 //! The calls into the static library, each in a file of its own.
 
 mod check;
+mod desk;
 mod morning;
 mod page;
 mod sites;
@@ -9,6 +10,8 @@ mod small;
 mod undecided;
 
 pub use check::{check, check_word};
+pub use desk::{desk_clear_words, desk_fresh_words, desk_keep_words, desk_return_words};
+pub use desk::{desk_set_words, Desk};
 pub use morning::{morning, morning_words};
 pub use page::{page, page_bytes};
 pub use sites::{site_words, sites, terminal_words, Site, Terminal};
