@@ -5,10 +5,10 @@ use book::Book;
 use drafts::Desk;
 use drafts::Done;
 
-// The drafts of a desk.
+// How many drafts a desk has.
 pub const DRAFTS: usize = 16;
 
-// The refusals: an option that the desk does not have, a number that is none of a draft, a draft that was never kept.
+// The refusals: an option that the desk does not have, a number that no draft has, a draft that was never kept.
 const NO_OPTION: u32 = 7;
 
 const NO_DRAFT: u32 = 14;
@@ -43,7 +43,7 @@ fn option_refusal(d: Desk, option: u32) -> u32
     NO_OPTION
 }
 
-// 0 where the number is one of a draft, and else the refusal.
+// 0 where a draft has the number, and else the refusal.
 fn number_refusal(draft: u32) -> u32
     ensures { λ r. ⌜ r ≡ numberRefusal draft ⌝ }
 {

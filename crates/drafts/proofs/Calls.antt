@@ -5,16 +5,16 @@ use mathlib.Core.Logic.{_⊎_, inl, inr}
 use mathlib.Core.List.{List, []}
 use Prim.Native.Nat.{ℕ, zero, suc, _-_, _^_}
 use native.Mathlib.Omega.{arith}
-use borrow.Author.Tests.{leb-true, leb-false}
-use lib.Dec.{leb}
+use borrow.Author.Tests.{leb-true, leb-false, eqb-true, eqb-false}
+use lib.Dec.{leb, eqb}
 use lib.ListN.{length-set, set as put}
 use lib.Seq.{getD-set-same, getD-set-other}
 use lib.Bits.{bitOr}
 use Rattle.words.specs.Words.{has, minus}
-use Rattle.words.proofs.Membership.{has-or, has-minus, has-bit, has-bit-other}
+use Rattle.words.proofs.Membership.{has-or, has-minus, has-bit, has-bit-other, ext}
 use Rattle.drafts.specs.declared.Desk.{Desk}
-use Rattle.drafts.specs.Desk.{Call, Call.set, Call.clear, Call.keep, Call.return, maxDrafts, among, optionsOf, optionRefusal, refusal, withOrder, altered, unless, after, wishes, draft}
-use Rattle.drafts.specs.Demands.{Outside, RefusedAltersNothing, ButFor, ButPlace, SameDrafts, OnDesk, AnyDesk}
+use Rattle.drafts.specs.Desk.{Call, Call.set, Call.clear, Call.keep, Call.return, maxDrafts, among, optionsOf, optionRefusal, refusal, withOrder, altered, unless, after, wishes, draft, Standing}
+use Rattle.drafts.specs.Demands.{Outside, RefusedAltersNothing, ClearingUnset, ButFor, ButPlace, SameDrafts, OnDesk, AnyDesk}
 
 -- ---- numbers
 
@@ -35,12 +35,6 @@ among-out k most o = elim (among-or k most) [ inl h ↦ absurd (h .1 o) | inr h 
 
 -- ---- refusals
 
-pub option-in : (d : Desk) (k : ℕ) → (Outside k (optionsOf d) → ⊥) → optionRefusal d k ≡ 0
-option-in d k n = ap (λ (b : Bool). elim b [ true ↦ 0 | false ↦ 7 ]) (among-in k (optionsOf d) n)
-
-pub option-out : (d : Desk) (k : ℕ) → Outside k (optionsOf d) → optionRefusal d k ≡ 7
-option-out d k o = ap (λ (b : Bool). elim b [ true ↦ 0 | false ↦ 7 ]) (among-out k (optionsOf d) o)
-
 pub keep-in : (d : Desk) (j : ℕ) → (Outside j maxDrafts → ⊥) → refusal d (keep j) ≡ 0
 unfolding refusal
 keep-in d j n = ap (λ (b : Bool). elim b [ true ↦ 0 | false ↦ 14 ]) (among-in j maxDrafts n)
@@ -48,6 +42,10 @@ keep-in d j n = ap (λ (b : Bool). elim b [ true ↦ 0 | false ↦ 14 ]) (among-
 pub keep-out : (d : Desk) (j : ℕ) → Outside j maxDrafts → refusal d (keep j) ≡ 14
 unfolding refusal
 keep-out d j o = ap (λ (b : Bool). elim b [ true ↦ 0 | false ↦ 14 ]) (among-out j maxDrafts o)
+
+-- an option, by whether the desk has it
+abbrev optionBy : Bool → ℕ
+optionBy b = elim b [ true ↦ 0 | false ↦ 7 ]
 
 -- a return, by whether the number is one and the draft is kept
 abbrev returnBy : Bool → Bool → ℕ
@@ -123,11 +121,24 @@ either-way P d c p q = go (refusal d c) refl
     go zero e = subst P (sym (after-accepted d c e)) (q e)
     go (suc r) e = subst P (sym (after-refused d c (λ z. omega (arith, e, z)))) p
 
+-- a bit that is not there is taken out in vain
+without : (w i : ℕ) → has w i ≡ false → minus w (2 ^ i) ≡ w
+without w i e = ext (minus w (2 ^ i)) w (λ x. go x (eqb x i) refl)
+  where
+    go : (x : ℕ) (b : Bool) → eqb x i ≡ b → has (minus w (2 ^ i)) x ≡ has w x
+    go x true f = let same : x ≡ i = eqb-true x i f in ap (has (minus w (2 ^ i))) same ∙ bit-out w i .0 ∙ sym (ap (has w) same ∙ e)
+    go x false f = bit-out w i .1 x (eqb-false x i f)
+
+pub clearing-unset : ClearingUnset
+clearing-unset d k e =
+    either-way (λ (x : Desk). x ≡ d) d (clear k) refl
+    (λ accepted. ap₂ (withOrder d) (without (d .wanted) (k - 1) (ap (λ (s : Standing). s .wanted) e)) (without (d .unwanted) (k - 1) (ap (λ (s : Standing). s .unwanted) e)))
+
 -- ---- any desk
 
 module _ (d : Desk) where
   pub option-or : (k : ℕ) → ((optionRefusal d k ≡ 7) × Outside k (optionsOf d)) ⊎ ((optionRefusal d k ≡ 0) × (Outside k (optionsOf d) → ⊥))
-  option-or k = elim (among-or k (optionsOf d)) [ inl h ↦ inr (option-in d k (h .1), h .1) | inr h ↦ inl (option-out d k (h .1), h .1) ]
+  option-or k = elim (among-or k (optionsOf d)) [ inl h ↦ inr (ap optionBy (h .0), h .1) | inr h ↦ inl (ap optionBy (h .0), h .1) ]
 
   pub keep-or : (j : ℕ) → ((refusal d (keep j) ≡ 14) × Outside j 16) ⊎ ((refusal d (keep j) ≡ 0) × (Outside j 16 → ⊥))
   keep-or j = elim (among-or j maxDrafts) [ inl h ↦ inr (keep-in d j (h .1), h .1) | inr h ↦ inl (keep-out d j (h .1), h .1) ]

@@ -6,23 +6,31 @@ use Rattle.words.specs.Words.{has, minus}
 use Rattle.drafts.specs.declared.Desk.{Desk}
 use Rattle.drafts.specs.declared.Done.{Done}
 use Rattle.drafts.specs.Desk.{fresh, Call, refusal, after, deskAfter}
-use Rattle.drafts.specs.Demands.{HandedOn, HandedOn.made, HandedOn.lent, RunOfCalls, Examples, Demands}
-use Rattle.drafts.proofs.Calls.{after-refused, any-desk}
+use Rattle.drafts.specs.Demands.{OneCall, HandedOn, HandedOn.made, HandedOn.lent, RunOfCalls, Examples, Demands}
+use Rattle.drafts.proofs.Calls.{after-refused, clearing-unset, any-desk}
 use Rattle.drafts.proofs.Runs.{fresh-desk, as-for-none, drafts}
 use Rattle.drafts.proofs.Back.{judging, stands, one-way}
 use Rattle.drafts.proofs.Fitting.{always-fit, checkable}
 
 -- ---- what a caller has
 
+one-call : OneCall
+one-call =
+    record {
+      made = λ n answer d m. (ap (λ (x : Done). x .answer) (m .as-defined), ap (λ (x : Done). x .desk) (m .as-defined));
+      lent = λ before c answer d a. (ap (λ (x : Done). x .answer) (a .as-defined), ap (λ (x : Done). x .desk) (a .as-defined));
+    }
+
 handed-on : (n : ℕ) (calls : List Call) (d : Desk) → HandedOn n calls d → d ≡ deskAfter n calls
-handed-on n calls d (made m) = ap (λ (x : Done). x .desk) (m .done)
-handed-on n calls d (lent {past = past} {c = c} {d = before} h a) = ap (λ (x : Done). x .desk) (a .done) ∙ ap (λ (x : Desk). after x c) (handed-on n past before h)
+handed-on n calls d (made {answer = answer} m) = one-call .made n answer d m .1
+handed-on n calls d (lent {answer = answer} {past = past} {c = c} {d = before} h a) =
+    one-call .lent before c answer d a .1 ∙ ap (λ (x : Desk). after x c) (handed-on n past before h)
 
 run-of-calls : RunOfCalls
 run-of-calls n calls d h =
     record {
       desk = handed-on n calls d h;
-      answer = λ c r d′ a. ap (λ (x : Done). x .answer) (a .done) ∙ ap (λ (x : Desk). refusal x c) (handed-on n calls d h);
+      answer = λ c r d′ a. one-call .lent d c r d′ a .0 ∙ ap (λ (x : Desk). refusal x c) (handed-on n calls d h);
     }
 
 -- ---- examples
@@ -53,12 +61,14 @@ demands =
       fresh-desk = fresh-desk;
       judging = judging;
       refused-alters-nothing = after-refused;
+      clearing-unset = clearing-unset;
       stands = stands;
       one-way = one-way;
       drafts = drafts;
       always-fit = always-fit;
       checkable = checkable;
       as-for-none = as-for-none;
+      one-call = one-call;
       run-of-calls = run-of-calls;
       any-desk = any-desk;
       examples = examples;

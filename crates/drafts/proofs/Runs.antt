@@ -29,13 +29,13 @@ inside j most h g (inr o) = omega (arith, g, o)
 
 -- ---- a fresh desk
 
-pub fresh-few : (n : ℕ) → n ≤ 64 → fresh n ≡ freshBy false n
-unfolding fresh
-fresh-few n h = ap (λ (b : Bool). freshBy b n) (le-ltb maxVars n h)
-
 pub fresh-many : (n : ℕ) → 64 < n → fresh n ≡ freshBy true n
 unfolding fresh
 fresh-many n h = ap (λ (b : Bool). freshBy b n) (lt-ltb maxVars n h)
+
+pub fresh-few : (n : ℕ) → n ≤ 64 → fresh n ≡ freshBy false n
+unfolding fresh
+fresh-few n h = ap (λ (b : Bool). freshBy b n) (le-ltb maxVars n h)
 
 -- is an empty one
 pub fresh-empty : (P : Desk → Type 0) (n : ℕ) → ((m : ℕ) → P (emptyDesk m)) → P (fresh n .desk)
@@ -43,8 +43,8 @@ unfolding fresh
 fresh-empty P n p = go (ltb maxVars n)
   where
     go : (b : Bool) → P (freshBy b n .desk)
-    go true = p 0
-    go false = p n
+    go true = p _
+    go false = p _
 
 pub fresh-desk : Fresh
 fresh-desk n =

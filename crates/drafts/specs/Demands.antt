@@ -1,7 +1,7 @@
 -- The demands on a desk with drafts, each as a named type that is proved in `proofs/`. The record at the end has them all; docs/STEPS.md says how to read the
 -- signs. A run of calls is a list, the latest first: `deskAfter n calls` is the desk after them, on a fresh desk for n options. What is said of a run looks back
 -- through its calls: `since ++ (c ∷ before)` is a run in which c came after `before`, and `since` came after c. `after d c` is the desk after one call, and
--- `refusal d c` its answer, for any desk; numbers of options and drafts are any.
+-- `refusal d c` its answer, for any desk; the numbers of options and drafts may be any.
 use mathlib.Core.Path.{_≡_}
 use mathlib.Core.Bool.{Bool, true, false, not}
 use mathlib.Core.List.{List, [], _∷_, _++_}
@@ -32,7 +32,7 @@ Fresh = (n : ℕ) → FreshFor n
 abbrev pub Outside : ℕ → ℕ → Type 0
 Outside k most = (k < 1) ⊎ (most < k)
 
--- the order was kept as draft j by one of these calls
+-- one of these calls is `keep j`; where j is 1 to 16 it was accepted
 abbrev pub KeptIn : ℕ → List Call → Type 0
 KeptIn j calls = (since : List Call) × (before : List Call) × (calls ≡ since ++ (keep j ∷ before))
 
@@ -58,6 +58,10 @@ Judging = (n : ℕ) → n ≤ 64 → (past : List Call) (c : Call) → Judged n 
 -- a refused call alters nothing at all, on any desk
 abbrev pub RefusedAltersNothing : Type 0
 RefusedAltersNothing = (d : Desk) (c : Call) → refusal d c ≢ 0 → after d c ≡ d
+
+-- nor does clearing a wish that is not set
+abbrev pub ClearingUnset : Type 0
+ClearingUnset = (d : Desk) (k : ℕ) → standing d k ≡ unset → after d (clear k) ≡ d
 
 -- ---- how an option stands
 
@@ -89,15 +93,15 @@ pub record LooksBack (n : ℕ) (stands : List Call → ℕ → Standing) : Type 
 abbrev pub Stands : Type 0
 Stands = (n : ℕ) → n ≤ 64 → LooksBack n (λ calls k. standing (deskAfter n calls) k)
 
--- and this leaves nothing open: no two ways for options to stand are so
+-- and this leaves nothing open: any two ways for options to stand that look back so are the same
 abbrev pub OneWay : Type 0
 OneWay =
     (n : ℕ) → n ≤ 64 → (f g : List Call → ℕ → Standing) → LooksBack n f → LooksBack n g → (calls : List Call) (k : ℕ) → 1 ≤ k → f calls k ≡ g calls k
 
 -- ---- drafts
 
--- a draft is kept where one of the calls kept it, and is the order as it was when it was last kept; a draft that no call kept is empty. A return to it gives that
--- order, and the draft stays
+-- a draft is kept where one of the calls kept it: it is the order as it was when it was last kept, a return to it gives that order, and it stays. A draft that no
+-- call kept is empty. There are 16 places, and no other bit of `kept` is set
 pub record DraftsAfter (n : ℕ) : Type 0 where
   pub kept : (calls : List Call) (j : ℕ) → 1 ≤ j → j ≤ 16 → (has (deskAfter n calls .kept) (j - 1) ≡ true) ↔ KeptIn j calls
   pub no-other : (calls : List Call) (i : ℕ) → 16 ≤ i → has (deskAfter n calls .kept) i ≡ false
@@ -138,6 +142,11 @@ AsForNone = (n : ℕ) → 64 < n → (calls : List Call) → deskAfter n calls �
 
 -- ---- what a caller has
 
+-- one call: what is made fresh, with its answer, is that of the definition; so is what a call leaves, with its answer, whatever desk it was lent
+pub record OneCall : Type 0 where
+  pub made : (n answer : ℕ) (d : Desk) → Makes n answer d → (answer ≡ fresh n .answer) × (d ≡ fresh n .desk)
+  pub lent : (before : Desk) (c : Call) (answer : ℕ) (d : Desk) → Alters before c answer d → (answer ≡ refusal before c) × (d ≡ after before c)
+
 -- a desk that is handed on: it is made fresh, and each call is lent what the call before it left
 pub data HandedOn : ℕ → List Call → Desk → Type 0 where
   made : {n answer : ℕ} {d : Desk} → Makes n answer d → HandedOn n [] d
@@ -154,13 +163,13 @@ RunOfCalls = (n : ℕ) (calls : List Call) (d : Desk) → HandedOn n calls d →
 -- ---- any desk
 
 -- a desk that no fresh one leads to may say that it has more than 64 options, have options above its own in a word, or one in both, and anything in its other words.
--- It has 64 options then; a call alters what it is about, and leaves all else as it was, so that a stray bit stays where it is
+-- One that says more than 64 has 64 options; a call alters what it is about, and leaves all else as it was, so that a stray bit stays where it is
 
 -- one word as another but for bit i
 abbrev pub ButFor : ℕ → Bool → ℕ → ℕ → Type 0
 ButFor i bit w w′ = (has w′ i ≡ bit) × ((x : ℕ) → x ≢ i → has w′ x ≡ has w x)
 
--- one list as another but for place i
+-- one list as another but for place i, where it has that place: a desk's lists have 16
 abbrev pub ButPlace : ℕ → ℕ → List ℕ → List ℕ → Type 0
 ButPlace i w ws ws′ = (length ws′ ≡ length ws) × (i < length ws → getD ws′ i 0 ≡ w) × ((x : ℕ) → x ≢ i → getD ws′ x 0 ≡ getD ws x 0)
 
@@ -243,12 +252,14 @@ pub record Demands : Type 0 where
   pub fresh-desk : Fresh
   pub judging : Judging
   pub refused-alters-nothing : RefusedAltersNothing
+  pub clearing-unset : ClearingUnset
   pub stands : Stands
   pub one-way : OneWay
   pub drafts : Drafts
   pub always-fit : AlwaysFit
   pub checkable : Checkable
   pub as-for-none : AsForNone
+  pub one-call : OneCall
   pub run-of-calls : RunOfCalls
   pub any-desk : AnyDesk
   pub examples : Examples

@@ -11,7 +11,7 @@ use Rattle.book.specs.Limits.{maxVars}
 use Rattle.drafts.specs.declared.Desk.{Desk}
 use Rattle.drafts.specs.declared.Done.{Done}
 
--- the drafts of a desk
+-- how many drafts a desk has
 abbrev pub maxDrafts : ℕ
 maxDrafts = 16
 
@@ -51,7 +51,7 @@ optionsOf d = min (d .options) maxVars
 abbrev pub optionRefusal : Desk → ℕ → ℕ
 optionRefusal d k = elim (among k (optionsOf d)) [ true ↦ 0 | false ↦ 7 ]
 
--- 0, or the refusal of a number that is none of a draft
+-- 0, or the refusal of a number that no draft has
 abbrev pub numberRefusal : ℕ → ℕ
 numberRefusal j = elim (among j maxDrafts) [ true ↦ 0 | false ↦ 14 ]
 
@@ -87,7 +87,7 @@ altered d (keep j) =
     }
 altered d (return j) = withOrder d (getD (d .wanteds) (j - 1) 0) (getD (d .unwanteds) (j - 1) 0)
 
--- as it was where it is refused by a number
+-- the desk as it was, where the call is refused; else the altered one
 abbrev pub unless : ℕ → Desk → Desk → Desk
 unless zero before then′ = then′
 unless (suc k) before then′ = before
@@ -104,11 +104,11 @@ done d c = record { desk = after d c; answer = refusal d c }
 
 -- a fresh desk: the answer, and all of the desk
 pub record Makes (n answer : ℕ) (desk : Desk) : Type 0 where
-  pub done : record { desk = desk; answer = answer } ≡ fresh n
+  pub as-defined : record { desk = desk; answer = answer } ≡ fresh n
 
 -- a call on any desk: the answer, and all of the desk that was lent
 pub record Alters (before : Desk) (c : Call) (answer : ℕ) (desk : Desk) : Type 0 where
-  pub done : record { desk = desk; answer = answer } ≡ done before c
+  pub as-defined : record { desk = desk; answer = answer } ≡ done before c
 
 -- ---- a run of calls
 
