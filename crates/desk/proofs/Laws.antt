@@ -12,14 +12,8 @@ use Rattle.words.proofs.Truth.{both-ways}
 use Rattle.drafts.specs.declared.Desk.{Desk}
 use Rattle.drafts.specs.declared.Done.{Done}
 use Rattle.drafts.specs.Desk.{Call, Call.set, Call.clear, Call.keep, Call.return, among, optionsOf, optionRefusal, numberRefusal, returnRefusal, refusal, withOrder, altered, done}
-use Rattle.drafts.proofs.Calls.{among-or, after-accepted, after-refused, option-or}
+use Rattle.drafts.proofs.Calls.{among-or, optionBy, numberBy, returnBy, after-accepted, after-refused, option-or}
 use Rattle.drafts.proofs.Runs.{not-outside, not-above}
-
-abbrev numberBy : Bool → ℕ
-numberBy b = elim b [ true ↦ 0 | false ↦ 14 ]
-
-abbrev returnBy : Bool → Bool → ℕ
-returnBy b kept = elim b [ true ↦ elim kept [ true ↦ 0 | false ↦ 15 ] | false ↦ 14 ]
 
 abbrev pub doneOf : Desk → ℕ → Done
 doneOf d r = record { desk = d; answer = r }
@@ -85,9 +79,6 @@ return-place d j r e z = among-place j (go (among j 16) refl)
     go false f = absurd (omega (arith, e, z, ap (λ (b : Bool). returnBy b (has (d .kept) (j - 1))) f))
 
 -- ---- the refusals, by what the code has found
-
-abbrev optionBy : Bool → ℕ
-optionBy b = elim b [ true ↦ 0 | false ↦ 7 ]
 
 pub option-found : (d : Desk) (k m : ℕ) (x b : Bool) → m ≡ optionsOf d → x ≡ among k m → x ≡ b → optionBy b ≡ optionRefusal d k
 option-found d k m x b f e g = ap optionBy (sym g ∙ e ∙ ap (λ (n : ℕ). among k n) f)

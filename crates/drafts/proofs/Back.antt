@@ -2,7 +2,7 @@
 use mathlib.Core.Path.{_≡_, refl, sym, ap, ap₂, subst, _∙_}
 use mathlib.Core.Bool.{Bool, true, false, true≢false}
 use mathlib.Core.Logic.{_≢_, _⊎_, inl, inr}
-use mathlib.Core.List.{List, [], _∷_, _++_}
+use mathlib.Core.List.{List, [], _∷_, _++_, append-nil}
 use Prim.Native.Nat.{ℕ, zero, suc, _-_, _≤_, _<_}
 use native.Mathlib.Nat.{le-refl, not-suc-le-zero}
 use native.Mathlib.Omega.{arith}
@@ -17,7 +17,7 @@ use Rattle.drafts.specs.declared.Desk.{Desk}
 use Rattle.drafts.specs.Desk.{Call, Call.set, Call.clear, Call.keep, Call.return, optionsOf, optionRefusal, refusal, after, deskAfter, Wishes, wishes, Standing, unset, standing}
 use Rattle.drafts.specs.Demands.{Outside, KeptIn, callConditions, Accepted, Judging, BearsOn, NoneSince, LooksBack, Stands, OneWay}
 use Rattle.drafts.proofs.Calls.{after-refused, option-or, keep-or, return-or, set-after, clear-after, keep-after}
-use Rattle.drafts.proofs.Runs.{fresh-empty, inside, not-outside, not-above, places-differ, options-of, keeps, keeps-is, headOr, rest, kept-cons, kept-after, returned}
+use Rattle.drafts.proofs.Runs.{fresh-empty, inside, not-outside, not-above, places-differ, options-of, keeps, keeps-is, headOr, rest, kept-cons, no-append, kept-after, returned}
 
 -- ---- which calls are refused
 
@@ -148,10 +148,6 @@ none-since n few (c ∷ since) before k h none =
 
 -- ---- looking back
 
-append-nil : (l : List Call) → l ++ [] ≡ l
-append-nil [] = refl
-append-nil (c ∷ l) = ap (λ (x : List Call). c ∷ x) (append-nil l)
-
 set-in : (n : ℕ) → n ≤ 64 → (past : List Call) (k : ℕ) (fitted : Bool) → 1 ≤ k → k ≤ n → refusal (deskAfter n past) (set k fitted) ≡ 0
 set-in n few past k fitted h g = judging n few past (set k fitted) .accepted .1 (inside k n h g, tt)
 
@@ -185,10 +181,6 @@ data Last (n k : ℕ) : List Call → Type 0 where
       (since between before : List Call) (j : ℕ) → 1 ≤ j → j ≤ 16 → (KeptIn j between → ⊥) → NoneSince n k since (return j ∷ between ++ (keep j ∷ before)) →
       Last n k (since ++ (return j ∷ between ++ (keep j ∷ before)))
   was-never : (calls : List Call) → NoneSince n k calls [] → Last n k calls
-
-no-append : (later earlier : List Call) (c : Call) → [] ≡ later ++ (c ∷ earlier) → ⊥
-no-append [] earlier c e = omega (arith, ap (length {A = Call}) e)
-no-append (x ∷ later) earlier c e = omega (arith, ap (length {A = Call}) e)
 
 none-yet : (n k : ℕ) (before : List Call) → NoneSince n k [] before
 none-yet n k before later earlier c e = absurd (no-append later earlier c e)

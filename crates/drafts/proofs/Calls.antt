@@ -1,8 +1,8 @@
 -- What a call does to any desk: when it is refused, and which bits and places it alters.
 use mathlib.Core.Path.{_≡_, refl, sym, ap, ap₂, subst, _∙_}
-use mathlib.Core.Bool.{Bool, true, false, not, _&&_, _||_}
+use mathlib.Core.Bool.{Bool, true, false, not, _&&_, _||_, and-true, and-false, or-true, or-false}
 use mathlib.Core.Logic.{_⊎_, inl, inr}
-use mathlib.Core.List.{List, []}
+use mathlib.Core.List.{List}
 use Prim.Native.Nat.{ℕ, zero, suc, _-_, _^_}
 use native.Mathlib.Omega.{arith}
 use borrow.Author.Tests.{leb-true, leb-false, eqb-true, eqb-false}
@@ -35,21 +35,25 @@ among-out k most o = elim (among-or k most) [ inl h ↦ absurd (h .1 o) | inr h 
 
 -- ---- refusals
 
+-- an option, by whether the desk has it
+abbrev pub optionBy : Bool → ℕ
+optionBy b = elim b [ true ↦ 0 | false ↦ 7 ]
+
+-- a draft's number, by whether it is one
+abbrev pub numberBy : Bool → ℕ
+numberBy b = elim b [ true ↦ 0 | false ↦ 14 ]
+
+-- a return, by whether the number is one and the draft is kept
+abbrev pub returnBy : Bool → Bool → ℕ
+returnBy number kept = elim number [ true ↦ elim kept [ true ↦ 0 | false ↦ 15 ] | false ↦ 14 ]
+
 pub keep-in : (d : Desk) (j : ℕ) → (Outside j maxDrafts → ⊥) → refusal d (keep j) ≡ 0
 unfolding refusal
-keep-in d j n = ap (λ (b : Bool). elim b [ true ↦ 0 | false ↦ 14 ]) (among-in j maxDrafts n)
+keep-in d j n = ap numberBy (among-in j maxDrafts n)
 
 pub keep-out : (d : Desk) (j : ℕ) → Outside j maxDrafts → refusal d (keep j) ≡ 14
 unfolding refusal
-keep-out d j o = ap (λ (b : Bool). elim b [ true ↦ 0 | false ↦ 14 ]) (among-out j maxDrafts o)
-
--- an option, by whether the desk has it
-abbrev optionBy : Bool → ℕ
-optionBy b = elim b [ true ↦ 0 | false ↦ 7 ]
-
--- a return, by whether the number is one and the draft is kept
-abbrev returnBy : Bool → Bool → ℕ
-returnBy number kept = elim number [ true ↦ elim kept [ true ↦ 0 | false ↦ 15 ] | false ↦ 14 ]
+keep-out d j o = ap numberBy (among-out j maxDrafts o)
 
 pub return-out : (d : Desk) (j : ℕ) → Outside j maxDrafts → refusal d (return j) ≡ 14
 unfolding refusal
@@ -85,14 +89,6 @@ bit-in w i = (
   has-or w (2 ^ i) i ∙ ap (λ (b : Bool). has w i || b) (has-bit i) ∙ or-true (has w i),
   λ x n. has-or w (2 ^ i) x ∙ ap (λ (b : Bool). has w x || b) (has-bit-other i x (λ e. n (sym e))) ∙ or-false (has w x),
 )
-  where
-    or-true : (p : Bool) → (p || true) ≡ true
-    or-true true = refl
-    or-true false = refl
-
-    or-false : (p : Bool) → (p || false) ≡ p
-    or-false true = refl
-    or-false false = refl
 
 -- and taken out
 pub bit-out : (w i : ℕ) → ButFor i false w (minus w (2 ^ i))
@@ -100,14 +96,6 @@ bit-out w i = (
   has-minus w (2 ^ i) i ∙ ap (λ (b : Bool). has w i && not b) (has-bit i) ∙ and-false (has w i),
   λ x n. has-minus w (2 ^ i) x ∙ ap (λ (b : Bool). has w x && not b) (has-bit-other i x (λ e. n (sym e))) ∙ and-true (has w x),
 )
-  where
-    and-false : (p : Bool) → (p && false) ≡ false
-    and-false true = refl
-    and-false false = refl
-
-    and-true : (p : Bool) → (p && true) ≡ p
-    and-true true = refl
-    and-true false = refl
 
 -- a word put in a place
 pub place-put : (ws : List ℕ) (i w : ℕ) → ButPlace i w ws (put ws i w)

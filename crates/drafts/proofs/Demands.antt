@@ -1,6 +1,6 @@
 -- The demands on a desk with drafts.
 use mathlib.Core.Path.{_≡_, refl, ap, _∙_}
-use mathlib.Core.List.{List, []}
+use mathlib.Core.List.{List}
 use Prim.Native.Nat.{ℕ}
 use Rattle.words.specs.Words.{has, minus}
 use Rattle.drafts.specs.declared.Desk.{Desk}

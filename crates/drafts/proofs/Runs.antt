@@ -1,8 +1,8 @@
 -- Runs of calls: what keeps a draft, and what the drafts are then.
 use mathlib.Core.Path.{_≡_, refl, sym, ap, ap₂, subst, _∙_}
-use mathlib.Core.Bool.{Bool, true, false, _||_, true≢false, false≢true}
+use mathlib.Core.Bool.{Bool, true, false, _||_, or-true, true≢false, false≢true}
 use mathlib.Core.Logic.{_≢_, _⊎_, inl, inr, _↔_}
-use mathlib.Core.List.{List, [], _∷_, _++_}
+use mathlib.Core.List.{List, [], _∷_, _++_, nil≢cons}
 use Prim.Native.Nat.{ℕ, _-_, min, _≤_, _<_}
 use native.Mathlib.Nat.{min-eq-left}
 use native.Mathlib.Omega.{arith}
@@ -22,7 +22,7 @@ use Rattle.drafts.proofs.Calls.{among-or, keep-in, keep-out, return-kep
 abbrev wishesOf : ℕ → ℕ → Wishes
 wishesOf p q = record { wanted = p; unwanted = q }
 
--- a number from 1 to 16 is not outside
+-- a number from 1 to `most` is not outside
 pub inside : (j most : ℕ) → 1 ≤ j → j ≤ most → Outside j most → ⊥
 inside j most h g (inl o) = omega (arith, h, o)
 inside j most h g (inr o) = omega (arith, g, o)
@@ -118,12 +118,10 @@ kept-now j c past e = subst (λ (x : Call). KeptIn j (x ∷ past)) (sym (keeps-i
 keeps-not : (j : ℕ) (c : Call) (past : List Call) → (KeptIn j (c ∷ past) → ⊥) → keeps j c ≡ false
 keeps-not j c past n = refuted (keeps j c) (λ e. n (kept-now j c past e))
 
-no-calls : (j : ℕ) → KeptIn j [] → ⊥
-no-calls j k = go (k .0) (k .2)
-  where
-    go : (since : List Call) → [] ≡ since ++ (keep j ∷ k .1) → ⊥
-    go [] e = omega (arith, ap (length {A = Call}) e)
-    go (x ∷ since) e = omega (arith, ap (length {A = Call}) e)
+-- a run of no calls has none in it
+pub no-append : (later earlier : List Call) (c : Call) → [] ≡ later ++ (c ∷ earlier) → ⊥
+no-append [] earlier c e = nil≢cons e
+no-append (x ∷ later) earlier c e = nil≢cons e
 
 -- ---- which drafts are kept
 
@@ -184,7 +182,7 @@ kept-step d c j h g = go c
 pub kept-after : (n : ℕ) (calls : List Call) (j : ℕ) → 1 ≤ j → j ≤ 16 → (has (deskAfter n calls .kept) (j - 1) ≡ true) ↔ KeptIn j calls
 kept-after n [] j h g = (
   λ e. absurd (true≢false (sym e ∙ fresh-empty (λ (d : Desk). has (d .kept) (j - 1) ≡ false) n (λ m. has-zero (j - 1)))),
-  λ k. absurd (no-calls j k),
+  λ k. absurd (no-append (k .0) (k .1) (keep j) (k .2)),
 )
 kept-after n (c ∷ past) j h g =
     let d : Desk = deskAfter n past in
@@ -201,10 +199,6 @@ kept-after n (c ∷ past) j h g =
             | inr then′ ↦ step ∙ ap (λ (b : Bool). keeps j c || b) (before .1 then′) ∙ or-true (keeps j c)
           ],
     )
-  where
-    or-true : (p : Bool) → (p || true) ≡ true
-    or-true true = refl
-    or-true false = refl
 
 -- no bit from 16 on is ever set
 above-step : (d : Desk) (c : Call) (i : ℕ) → 16 ≤ i → has (d .kept) i ≡ false → has (after d c .kept) i ≡ false
