@@ -38,7 +38,7 @@ fn put_sizes(b: Book, out: &mut [u8])
     out[2] = (b.clauses / 256 % 256) as u8;
 }
 
-// Writes the bytes of the book whose clauses are the table's first, where they fit.
+// Writes the bytes of the book whose clauses are the table's first, where they fit. Public for a crate that makes a book, and shows that it is one.
 pub fn write_book(b: Book, t: &[u64], out: &mut [u8]) -> Written
     requires { ⌜ (b .vars ≤ maxVars) × (b .clauses ≤ maxClauses) × (clauseWords (b .clauses) ≤ length (now t)) ⌝ }
     ensures { λ r. ⌜ r ≡ writtenOf (length (now (out .entry))) (book (b .vars) (Clauses (now (t .entry)) (b .clauses))) ⌝ }

@@ -16,6 +16,7 @@ mod read;
 mod units;
 mod word;
 
+pub use encode::write_book;
 pub use judge::names_above;
 use order::Assumptions;
 use order::Order;

@@ -1,12 +1,14 @@
-// The check, the page, the morning, open options, the terminal and the desk for C and Rust: exported functions on numbers and slices (rust/optcheck/include/optcheck.h is their header).
+// The check, the page, the morning, open options, the terminal, the desk and joined books for C and Rust: exported functions on numbers and slices (rust/optcheck/include/optcheck.h is their header).
 ghost use Rattle.contract.specs.Filled.{lent};
 ghost use Rattle.page.specs.Filed.{Filed};
 ghost use Rattle.morning.specs.Morning.{Serves};
 ghost use Rattle.undecided.specs.Told.{Told};
 ghost use Rattle.sites.specs.Handed.{terminalOf, HandsOpening, HandsSite};
 ghost use Rattle.drafts.specs.Desk.{Makes, Alters, Call.set, Call.clear, Call.keep, Call.return};
+ghost use Rattle.joint.specs.Handed.{Hands};
 ghost use Rattle.optcheck_c.specs.Exported.{Exported};
 use drafts::Desk;
+use joint::Joined;
 use order::Order;
 use sites::Opening;
 use sites::Terminal;
@@ -222,4 +224,25 @@ pub extern "C" fn optcheck_desk_return(desk: &mut Desk, draft: u32) -> u32
     ensures { λ r. ⌜ Alters (now (desk .entry)) (return draft) r (now (desk .exit)) ⌝ }
 {
     desk::return_to(desk, draft)
+}
+
+// Joins two books (crate `joining`): 0, and the joint book's bytes stand at the beginning of `book` and their number in `length`; or the number of a refusal, and nothing
+// is changed.
+#[no_mangle]
+pub extern "C" fn optcheck_join(
+    first: &[u8],
+    second: &[u8],
+    pairs: &[u8],
+    book: &mut [u8],
+    length: &mut usize,
+) -> u32
+    ensures { λ r. ⌜ Hands (now (first .entry)) (now (second .entry)) (now (pairs .entry)) (now (book .entry)) (now (length .entry)) r (now (book .exit)) (now (length .exit)) ⌝ }
+{
+    match joining::join(first, second, pairs, book) {
+        Joined::Refused(k) => k,
+        Joined::Written(size) => {
+            *length = size;
+            0
+        }
+    }
 }

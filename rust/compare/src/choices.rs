@@ -34,7 +34,8 @@ fn meets_order(order: Order, choice: u64) -> bool {
     order.wanted & !choice == 0 && order.unwanted & choice == 0
 }
 
-fn keeps_all(book: &Book, choice: u64) -> bool {
+/// The choice keeps all rules.
+pub fn keeps_all(book: &Book, choice: u64) -> bool {
     book.rules.iter().all(|rule| rule.is_kept_by(choice))
 }
 

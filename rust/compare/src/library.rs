@@ -1,9 +1,9 @@
 //! The proved static library as a checker.
 
-use crate::lent::{desk, morning, open, page, sites, terminal, Lent};
-use crate::question::{after_text, answers_text, first_difference, in_turn, state_text};
-use crate::question::{tried_text, Question};
-use crate::question::{Check, Desk, Morning, Open, Page, Sites, State, Terminal};
+use crate::lent::{desk, join, morning, open, page, sites, terminal, Lent};
+use crate::question::{after_text, answers_text, first_difference, in_turn, joined_text};
+use crate::question::{state_text, tried_text, Question};
+use crate::question::{Check, Desk, Join, Morning, Open, Page, Sites, State, Terminal};
 use crate::under_test::UnderTest;
 use optcheck::{DeskWords, Site};
 use port::{Call, Outcome, Places};
@@ -28,7 +28,8 @@ impl UnderTest for Library {
             | Question::Sites(_)
             | Question::Terminal(_)
             | Question::Desk(_)
-            | Question::State(_) => true,
+            | Question::State(_)
+            | Question::Join(_) => true,
         }
     }
 
@@ -42,6 +43,7 @@ impl UnderTest for Library {
             Question::Page(page) => self.page(page),
             Question::Desk(desk) => self.desk(desk),
             Question::State(state) => self.state(state),
+            Question::Join(join) => self.join(join),
         }
     }
 }
@@ -132,6 +134,14 @@ impl Library {
     fn state(&self, question: &State) -> Result<String, String> {
         let after = desk::lend_once(question, self.rubbish, call)?;
         Ok(state_text(&after))
+    }
+
+    fn join(&self, question: &Join) -> Result<String, String> {
+        let Join { first, second, pairs, room } = question;
+        let joined = join::lend(*room, self.rubbish, |book, length| {
+            optcheck::join_bytes(first, second, pairs, book, length)
+        })?;
+        Ok(joined_text(&joined))
     }
 }
 

@@ -11,6 +11,7 @@ mod fields;
 mod framed;
 mod hex;
 mod in_process;
+mod joins;
 mod kinds;
 #[cfg(any(test, feature = "proved"))]
 mod lent;
@@ -38,8 +39,8 @@ use under_test::{Port, Program, UnderTest};
 
 const USAGE: &str = "\
 compare differential [--program PATH [--page-program PATH]] [--seed S] [--books N] [--solver NAME]
-    generated books, mornings, open options, sites, pages and desks through the checker and the port,
-    each verdict on a book also by an outside solver
+    generated books, mornings, open options, sites, pages, desks and joined books through the checker
+    and the port, each verdict on a book also by an outside solver
 compare vectors FILE... [--program PATH [--page-program PATH]]
     the cases of these files through the checker and the port
 compare allowances
@@ -61,7 +62,7 @@ const SEED: u64 = 1;
 const BOOKS: usize = 4000;
 
 /// What the lent tables hold before a run; for mornings, open options, sites, pages and desks, its complement
-/// in turn with it.
+/// in turn with it; for joined books both, one after the other.
 const RUBBISH: u64 = 0xa5a5_5a5a_a5a5_5a5a;
 
 /// The words of the command line after the subcommand.
@@ -142,6 +143,10 @@ fn differential(words: &Words) -> Result<(), String> {
         print!("{}", tally.told());
     }
     if let Some(tally) = desks::run(&mut tested, seed, desks::beside(books))? {
+        print!("{}", tally.told());
+    }
+    let kept = |clauses: &str| solver.can_be_kept(clauses);
+    if let Some(tally) = joins::run(tested[0].as_mut(), &kept, seed, joins::beside(books))? {
         print!("{}", tally.told());
     }
     println!("no difference, in {:.1} s", start.elapsed().as_secs_f64());

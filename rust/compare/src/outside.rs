@@ -46,10 +46,19 @@ impl Solver {
         self.run()
     }
 
+    /// The solver's verdict on clauses in the DIMACS form: they can all be kept.
+    pub fn can_be_kept(&self, clauses: &str) -> Result<bool, String> {
+        self.write(clauses)?;
+        self.run()
+    }
+
     /// Writes book and order to the solver's file.
     pub fn hand_over(&self, order: Order, book: &Book) -> Result<(), String> {
-        fs::write(&self.file, dimacs::write(book, order))
-            .map_err(|error| format!("{}: {error}", self.file.display()))
+        self.write(&dimacs::write(book, order))
+    }
+
+    fn write(&self, clauses: &str) -> Result<(), String> {
+        fs::write(&self.file, clauses).map_err(|error| format!("{}: {error}", self.file.display()))
     }
 
     /// Runs the solver on what was last handed over.

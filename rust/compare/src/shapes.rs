@@ -112,14 +112,20 @@ pub fn all_rules(options: usize) -> Book {
     Book { options, rules: rules.collect() }
 }
 
-/// The largest book: 64 options and 1,024 rules. It is like an option book, with rules of three
-/// to six entries after that.
+/// The largest book: 64 options and 1,024 rules.
 pub fn largest(random: &mut Random) -> Book {
-    let mut book = option_book(random, 64);
-    while book.rules.len() < RULES {
+    sized(random, 64, RULES)
+}
+
+/// A book of so many options and rules. It is like an option book, with rules of three to six entries
+/// after that.
+pub fn sized(random: &mut Random, options: usize, rules: usize) -> Book {
+    let mut book = option_book(random, options);
+    book.rules.truncate(rules);
+    while book.rules.len() < rules {
         let entries = random.between(3, 6);
         let mut rule = Rule::default();
-        for index in distinct(random, 64, entries) {
+        for index in distinct(random, options, entries) {
             match random.chance(1, 2) {
                 true => rule.fitted |= option(index),
                 false => rule.left_out |= option(index),
@@ -198,6 +204,8 @@ mod tests {
             .all(|r| (r.fitted | r.left_out).count_ones() == 3));
         let largest = largest(&mut random);
         assert_eq!((largest.options, largest.rules.len()), (64, 1024));
+        let sized = sized(&mut random, 30, 12);
+        assert_eq!((sized.options, sized.rules.len()), (30, 12));
     }
 
     #[test]

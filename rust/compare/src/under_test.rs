@@ -73,7 +73,8 @@ impl Program {
             | Question::Terminal(_)
             | Question::Page(_)
             | Question::Desk(_)
-            | Question::State(_) => None,
+            | Question::State(_)
+            | Question::Join(_) => None,
         }
     }
 }
@@ -97,7 +98,7 @@ mod tests {
     use super::*;
     use crate::kinds::case;
     use crate::question::{Check, Page};
-    use crate::{desks, mornings, terminals, undecided};
+    use crate::{desks, joins, mornings, terminals, undecided};
 
     fn program(path: &str, page: Option<&str>) -> Program {
         Program { path: path.to_string(), page: page.map(str::to_string) }
@@ -152,5 +153,6 @@ mod tests {
         assert!(!program.takes(&terminals::terminal(1, 1).into()));
         assert!(!program.takes(&desks::desk(1, 1).into()));
         assert!(!program.takes(&desks::state(1, 1).into()));
+        assert!(!program.takes(&joins::join(1, 1).into()));
     }
 }

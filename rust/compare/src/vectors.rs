@@ -10,7 +10,7 @@ use std::collections::BTreeMap;
 use std::fmt::Write;
 
 /// Questions of the format that no checker answers yet.
-const NOT_YET: [&str; 3] = ["join", "turns", "cheapest"];
+const NOT_YET: [&str; 2] = ["turns", "cheapest"];
 
 /// A case: its name, what is asked, and what must be printed.
 struct Vector {
@@ -199,6 +199,14 @@ mod tests {
     const DESK: &str = "case desk\ndesk 2\nset 1 fitted\nkeep 3\nset 2 out\nset 3 out\nout\n\
                         0\n0\n0\n0\n7\norder 1 2\ndraft 3 1 0\nend\n";
 
+    /// Option 1 of the second book is option 2 of the first, and its option 2 becomes 3: the rule "2 or not 1".
+    const JOIN: &str = "case join\njoin\nfirst 020000\n\
+                        second 020100\
+                        02000000000000000100000000000000\n\
+                        pairs 0201\nroom 19\nout\n\
+                        book 030100\
+                        04000000000000000200000000000000\nend\n";
+
     fn through_the_port(text: &str) -> Result<(Score, String), String> {
         run(&mut [Box::new(Port)], text)
     }
@@ -300,6 +308,15 @@ mod tests {
     }
 
     #[test]
+    fn a_joint_book_stands_on_one_line_and_so_does_its_refusal() {
+        let short = JOIN.replace("room 19", "room 18");
+        let (score, told) = through_the_port(&format!("{JOIN}{short}")).unwrap();
+        assert_eq!((score.agree, score.differ), (1, vec!["join".to_string()]));
+        let due = "case join differs, port: line 1 is `refused 23`, due is `book 03";
+        assert!(told.starts_with(due), "{told}");
+    }
+
+    #[test]
     fn what_is_not_known_yet_is_skipped_by_name() {
         let turns = "case a turn\nturns\nbook 000000\norder 0 0 0\nout\nforced\nend\n";
         let (score, told) = through_the_port(&format!("{SMALL}{turns}")).unwrap();
@@ -341,6 +358,8 @@ mod tests {
             ("page_lines.txt", 80),
             ("desk.txt", 250),
             ("desk_more.txt", 50),
+            ("join.txt", 250),
+            ("join_more.txt", 90),
         ];
         for (file, cases) in files {
             let text = std::fs::read_to_string(format!("{folder}/{file}")).unwrap();

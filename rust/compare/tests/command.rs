@@ -45,7 +45,7 @@ fn a_vector_that_differs_is_named() {
 
 #[test]
 fn a_question_that_a_program_does_not_take_is_named_and_no_difference() {
-    for file in ["morning.txt", "open.txt", "sites.txt", "page.txt", "desk.txt"] {
+    for file in ["morning.txt", "open.txt", "sites.txt", "page.txt", "desk.txt", "join.txt"] {
         let output = compare(&["vectors", &vectors(file), "--program", "cat"]);
         assert_eq!(output.status.code(), Some(0), "{}", said(&output));
         let told = String::from_utf8_lossy(&output.stdout);

@@ -1,4 +1,4 @@
-//! The command line after the verb: files, and flags with a value each.
+//! The command line after the verb: files, flags with a value each, and switches, which have none.
 
 use crate::ending::Failure;
 use std::ops::RangeInclusive;
@@ -9,30 +9,38 @@ pub type Files = (usize, usize);
 /// As many files as are given.
 pub const ANY: usize = usize::MAX;
 
-/// The files and the flags of a command line.
+/// The files, the flags and the switches of a command line.
 #[derive(Debug, Default)]
 pub struct Arguments {
     pub files: Vec<String>,
     flags: Vec<(String, String)>,
+    switches: Vec<String>,
 }
 
 impl Arguments {
-    /// Reads the words of a verb that knows these flags and takes so many files.
-    pub fn read(words: &[String], known: &[&str], files: Files) -> Result<Arguments, Failure> {
+    /// Reads the words of a verb that knows these flags and switches and takes so many files.
+    pub fn read(
+        words: &[String],
+        flags: &[&str],
+        switches: &[&str],
+        files: Files,
+    ) -> Result<Arguments, Failure> {
         let mut read = Arguments::default();
         let mut words = words.iter();
         while let Some(word) = words.next() {
             if !word.starts_with('-') || word == "-" {
                 read.files.push(word.clone());
-            } else if !known.contains(&word.as_str()) {
-                return usage(format!("`{word}` is unknown here"));
-            } else if read.value(word).is_some() {
+            } else if read.value(word).is_some() || read.has(word) {
                 return usage(format!("`{word}` is given twice: expected it once"));
-            } else {
+            } else if switches.contains(&word.as_str()) {
+                read.switches.push(word.clone());
+            } else if flags.contains(&word.as_str()) {
                 let Some(value) = words.next() else {
                     return usage(format!("nothing stands after `{word}`: expected its value"));
                 };
                 read.flags.push((word.clone(), value.clone()));
+            } else {
+                return usage(format!("`{word}` is unknown here"));
             }
         }
         let (least, most) = files;
@@ -53,6 +61,11 @@ impl Arguments {
     /// The value of a flag, where it is given.
     pub fn value(&self, flag: &str) -> Option<&str> {
         self.flags.iter().find(|(name, _)| name == flag).map(|(_, value)| value.as_str())
+    }
+
+    /// The switch is given.
+    pub fn has(&self, switch: &str) -> bool {
+        self.switches.iter().any(|name| name == switch)
     }
 
     /// The number of a flag, where it is given.
@@ -83,7 +96,7 @@ mod tests {
 
     fn read(line: &str) -> Result<Arguments, String> {
         let words: Vec<String> = line.split_whitespace().map(str::to_string).collect();
-        let read = Arguments::read(&words, &["--allowance", "--names"], (1, 2));
+        let read = Arguments::read(&words, &["--allowance", "--names"], &["--same-names"], (1, 2));
         read.map_err(|failure| failure.to_string())
     }
 
@@ -97,6 +110,14 @@ mod tests {
     }
 
     #[test]
+    fn a_switch_has_no_value() {
+        let arguments = read("a --same-names b").unwrap();
+        assert_eq!(arguments.files, ["a", "b"]);
+        assert!(arguments.has("--same-names"));
+        assert!(!read("a b").unwrap().has("--same-names"));
+    }
+
+    #[test]
     fn each_bad_command_line_is_told() {
         let due = [
             ("", "0 files are given: expected 1 at least and 2 at most"),
@@ -104,6 +125,7 @@ mod tests {
             ("a --places 3", "`--places` is unknown here"),
             ("a --allowance", "nothing stands after `--allowance`: expected its value"),
             ("a --names b --names c", "`--names` is given twice: expected it once"),
+            ("a --same-names --same-names", "`--same-names` is given twice: expected it once"),
             ("- -", "`-` stands twice: standard input is read once"),
             ("- --names -", "`-` stands twice: standard input is read once"),
         ];
@@ -114,7 +136,7 @@ mod tests {
 
     #[test]
     fn any_number_of_files_has_a_least() {
-        let read = |words: &[String]| Arguments::read(words, &[], (1, ANY));
+        let read = |words: &[String]| Arguments::read(words, &[], &[], (1, ANY));
         let words = vec!["a".to_string(); 20];
         assert_eq!(read(&words).ok().unwrap().files.len(), 20);
         let failure = read(&[]).err().unwrap();

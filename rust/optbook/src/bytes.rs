@@ -47,7 +47,8 @@ pub fn read_input(input: &[u8]) -> Result<(Order, Book), String> {
     Ok((Order { wanted, unwanted, standard }, book))
 }
 
-fn read_book(bytes: &[u8]) -> Result<Book, String> {
+/// The book of these bytes, of which there are 3 at least, or what is wrong with them, in words.
+pub(crate) fn read_book(bytes: &[u8]) -> Result<Book, String> {
     let options = usize::from(bytes[0]);
     let count = usize::from(bytes[1]) + 256 * usize::from(bytes[2]);
     if options > OPTIONS {

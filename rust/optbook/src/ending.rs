@@ -22,6 +22,7 @@ pub struct Printed {
 pub enum Failure {
     Usage(String),
     Mistake(String),
+    Refused(String),
     Unlinked,
     Unwritten(io::Error),
 }
@@ -48,6 +49,7 @@ impl Failure {
         match self {
             Failure::Usage(_) => USAGE,
             Failure::Mistake(_) => MISTAKE,
+            Failure::Refused(_) => status_of(Kind::Refused),
             Failure::Unlinked => UNLINKED,
             Failure::Unwritten(_) => UNWRITTEN,
         }
@@ -63,9 +65,12 @@ impl From<Unlinked> for Failure {
 impl fmt::Display for Failure {
     fn fmt(&self, f: &mut fmt::Formatter<'_>) -> fmt::Result {
         match self {
-            Failure::Usage(what) | Failure::Mistake(what) => f.write_str(what),
+            Failure::Usage(what) | Failure::Mistake(what) | Failure::Refused(what) => {
+                f.write_str(what)
+            }
             Failure::Unlinked => f.write_str(
-                "built without the proved library, so it checks nothing: build it with ./check",
+                "built without the proved library, so it checks and joins nothing: build it with \
+                 ./check",
             ),
             Failure::Unwritten(error) => write!(f, "standard output: {error}"),
         }

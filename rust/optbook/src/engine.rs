@@ -1,6 +1,7 @@
 //! The proved check, that of a morning's orders together, that of every setting of open options, and that
 //! of sites that share one allowance, through the wrapper: tables are lent to the library, and what it
-//! wrote into them is taken out. Each answer here is the library's own, and so is the page of a check.
+//! wrote into them is taken out. Each answer here is the library's own, and so are the page of a check and
+//! the joint book of two.
 
 #[cfg(feature = "proved")]
 use crate::lent::Lent;
@@ -59,6 +60,9 @@ pub struct Served {
 
 /// What sites end with: each site that was served, in turn, or the number of the refusal of all of them.
 pub type Sites = Result<Vec<Served>, u32>;
+
+/// What two books are joined to: the joint book, or the number of the refusal.
+pub type Joined = Result<Book, u32>;
 
 /// The proved library is not linked.
 #[derive(Clone, Copy, Debug, PartialEq, Eq)]
@@ -139,6 +143,17 @@ pub fn page(book: &Book, order: Order, allowance: u32) -> Result<Page, Unlinked>
     Ok(optcheck::page(&crate::bytes::book_bytes(book), order, allowance))
 }
 
+/// The proved joint book of two books, of which the options of these pairs are the same thing: two bytes a
+/// pair, the number of an option of the first book and of one of the second.
+#[cfg(feature = "proved")]
+pub fn join(first: &Book, second: &Book, pairs: &[u8]) -> Result<Joined, Unlinked> {
+    let [first, second] = [first, second].map(crate::bytes::book_bytes);
+    let mut bytes = vec![0; optcheck::BOOK_BYTES];
+    let joined = optcheck::join(&first, &second, pairs, &mut bytes);
+    let book = |length| crate::bytes::read_book(&bytes[..length]).expect("a joint book is a book");
+    Ok(joined.map(book))
+}
+
 /// Without the library nothing is checked.
 #[cfg(not(feature = "proved"))]
 pub fn check(_: &Book, _: Order, _: Limits) -> Result<Checked, Unlinked> {
@@ -166,5 +181,11 @@ pub fn sites(_: &Book, _: &[Order], _: Limits) -> Result<Sites, Unlinked> {
 /// Without the library nothing is checked.
 #[cfg(not(feature = "proved"))]
 pub fn page(_: &Book, _: Order, _: u32) -> Result<Page, Unlinked> {
+    Err(Unlinked)
+}
+
+/// Without the library nothing is joined.
+#[cfg(not(feature = "proved"))]
+pub fn join(_: &Book, _: &Book, _: &[u8]) -> Result<Joined, Unlinked> {
     Err(Unlinked)
 }

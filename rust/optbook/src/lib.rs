@@ -4,7 +4,8 @@
 //! `dimacs` are the two other forms of a book. `engine` is the proved check of an order, of several, of
 //! one with open options, or of sites that share one allowance, and the page of one, `outcome` tells what
 //! it found with the options' names, and `explain` looks for the reason of a `cannot`. `desk` is the library's
-//! desk, `session` what is done at it, and `command` reads what is asked for there.
+//! desk, `session` what is done at it, and `command` reads what is asked for there. `join` has the names and
+//! the places of two books that the library joined.
 
 pub mod bytes;
 pub mod command;
@@ -12,6 +13,7 @@ pub mod desk;
 pub mod dimacs;
 pub mod engine;
 pub mod explain;
+pub mod join;
 #[cfg(any(test, feature = "proved"))]
 mod lent;
 pub mod mistake;
@@ -45,6 +47,11 @@ pub struct Book {
 /// The option with this index, counted from 0, as a set.
 pub fn option(index: usize) -> u64 {
     1 << index
+}
+
+/// The number of an option that is given as a set.
+pub fn number(option: u64) -> u32 {
+    option.trailing_zeros() + 1
 }
 
 /// The first options, up to 64 of them, as a set.

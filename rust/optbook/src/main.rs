@@ -34,7 +34,8 @@ fn main() {
     if words.iter().any(|word| is_help(word)) {
         print(Printed::text(verb.help()));
     }
-    match Arguments::read(words, verb.flags, verb.files).and_then(|words| (verb.run)(&words)) {
+    let arguments = Arguments::read(words, verb.flags, verb.switches, verb.files);
+    match arguments.and_then(|arguments| (verb.run)(&arguments)) {
         Ok(printed) => print(printed),
         Err(failure) => end(failure, Some(verb)),
     }

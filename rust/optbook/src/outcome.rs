@@ -25,6 +25,8 @@ fn reason(number: u32) -> &'static str {
         19 => "more than 10 options are open, or one is above the book's last",
         20 => "an open option is also wanted or unwanted",
         21 => "the number of sites is not 1 to 8",
+        22 => "a pair is incomplete, or names an option outside its book or one already paired",
+        23 => "the joint book has more than 64 options or 1,024 rules, or more bytes than are lent",
         _ => "no number of the table",
     }
 }
@@ -125,6 +127,12 @@ mod tests {
         assert_eq!(told(Kind::Refused, 20), twenty);
         let twenty_one = "refused, number 21: the number of sites is not 1 to 8";
         assert_eq!(told(Kind::Refused, 21), twenty_one);
+        let twenty_two = "refused, number 22: a pair is incomplete, or names an option outside \
+                          its book or one already paired";
+        assert_eq!(refusal(22), twenty_two);
+        let twenty_three = "refused, number 23: the joint book has more than 64 options or 1,024 \
+                            rules, or more bytes than are lent";
+        assert_eq!(refusal(23), twenty_three);
         assert_eq!(told(Kind::Refused, 63), "refused, number 63: no number of the table");
     }
 

@@ -7,7 +7,7 @@ use crate::engine::{check, Limits, Unlinked};
 use crate::outcome::{in_words, refusal};
 use crate::sheet::{Demand, Sheet};
 use crate::text::set_text;
-use crate::Order;
+use crate::{number, Order};
 
 /// A session: the book, the desk, and what a check may use.
 pub struct Session {
@@ -121,11 +121,6 @@ impl Session {
     fn draft_line(&self, (draft, order): (u32, Order)) -> String {
         format!("draft {draft}: {}\n", wishes_text(order, &self.sheet.names))
     }
-}
-
-/// The number of an option that is given as a set.
-fn number(option: u64) -> u32 {
-    option.trailing_zeros() + 1
 }
 
 /// The wishes of an order, by names.

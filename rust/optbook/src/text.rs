@@ -1,9 +1,13 @@
 //! Writing the readable form: rules, sets and whole books with the options' names.
 
+use crate::sheet::Demand;
 use crate::{option, Book, Order, Rule};
 
 /// The word for the empty rule.
 pub const EMPTY_RULE: &str = "false";
+
+/// The most characters of a line that has a part in where comments stand.
+const COLUMN: usize = 60;
 
 /// The names x1 to xn.
 pub fn numbered_names(options: usize) -> Vec<String> {
@@ -42,15 +46,35 @@ pub fn rule_text(rule: Rule, names: &[String]) -> String {
     }
 }
 
-/// The names of a set's options, lowest first.
-pub fn set_text(set: u64, names: &[String]) -> String {
-    let indexed = names.iter().enumerate();
-    let members = indexed.filter(|(index, _)| set & option(*index) != 0);
-    let members: Vec<&str> = members.map(|(_, name)| name.as_str()).collect();
-    match members.is_empty() {
-        true => "(none)".to_string(),
-        false => members.join(" "),
+/// A demand as a line of its own.
+pub fn demand_text(demand: Demand, names: &[String]) -> String {
+    match demand {
+        Demand::Rule(rule) => rule_text(rule, names),
+        Demand::Standard(option) => format!("standard: {}", set_text(option, names)),
+        Demand::Want(option) => format!("want: {}", set_text(option, names)),
+        Demand::Without(option) => format!("without: {}", set_text(option, names)),
     }
+}
+
+/// Lines with a comment after each. The comments stand below one another, but for those after long lines.
+pub fn commented(lines: &[(String, String)]) -> String {
+    let widths = lines.iter().map(|(line, _)| line.len());
+    let width = widths.filter(|&width| width <= COLUMN).max().unwrap_or(0);
+    lines.iter().map(|(line, comment)| format!("{line:width$}  # {comment}\n")).collect()
+}
+
+/// The names of a set's options, lowest first, as a text.
+pub fn set_text(set: u64, names: &[String]) -> String {
+    match set_names(set, names) {
+        members if members.is_empty() => "(none)".to_string(),
+        members => members.join(" "),
+    }
+}
+
+/// The names of a set's options, lowest first.
+pub fn set_names(set: u64, names: &[String]) -> Vec<&str> {
+    let members = names.iter().enumerate().filter(|(index, _)| set & option(*index) != 0);
+    members.map(|(_, name)| name.as_str()).collect()
 }
 
 #[cfg(test)]
@@ -86,5 +110,21 @@ mod tests {
         assert_eq!(numbered_names(2), ["x1", "x2"]);
         assert_eq!(set_text(2, &numbered_names(2)), "x2");
         assert_eq!(set_text(0, &numbered_names(2)), "(none)");
+        assert_eq!(set_names(5, &numbered_names(3)), ["x1", "x3"]);
+    }
+
+    #[test]
+    fn comments_stand_below_one_another_but_for_those_after_long_lines() {
+        let line = |length| ("x".repeat(length), "here".to_string());
+        let columns = |lengths: &[usize]| {
+            let lines: Vec<_> = lengths.iter().map(|&length| line(length)).collect();
+            let text = commented(&lines);
+            assert!(text.lines().all(|line| line.ends_with("  # here")));
+            text.lines().map(|line| line.find('#').unwrap()).collect::<Vec<_>>()
+        };
+        assert_eq!(columns(&[]), []);
+        assert_eq!(columns(&[1, 7, 3]), [9, 9, 9]);
+        assert_eq!(columns(&[1, 60, 61, 99]), [62, 62, 63, 101]);
+        assert_eq!(columns(&[70, 8, 80]), [72, 10, 82]);
     }
 }

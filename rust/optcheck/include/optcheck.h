@@ -3,13 +3,14 @@
  * tables that the caller lends, and returns the answer as one word; another checks several orders
  * of one book; a third checks an order with every setting of options that are left open; two more
  * serve sites, one a call, that share one allowance; another writes the outcome as a page of text;
- * and the last five make and alter a desk, which has an order and drafts of it to come back to.
- * Every length is permitted: a bad one is a refusal, and a page that is too short stays as it was.
+ * five more make and alter a desk, which has an order and drafts of it to come back to; and the last
+ * joins two books into one. Every length is permitted: a bad one is a refusal, and a page that is
+ * too short stays as it was.
  *
- * The book, the orders, the answers, each table and the page are a pointer and a length in
- * elements, and a verdict, a setting, the numbers of a terminal and a desk are pointers. No two of
- * them overlap; the book and the orders are only read. A pointer with the length 0 is not used, and
- * must not be null.
+ * Books, orders, pairs, answers, each table, the page and the joint book are a pointer and a length
+ * in elements, and a verdict, a setting, the numbers of a terminal, a desk and a length that is
+ * handed over are pointers. What is written overlaps nothing else; books, orders and pairs that are
+ * given are only read. A pointer with the length 0 is not used, and must not be null.
  */
 
 #ifndef OPTCHECK_H
@@ -24,7 +25,7 @@ extern "C" {
 #endif
 
 /* The limits of a book, of the lent tables, of a morning, of open options, of a terminal and of a
- * desk, and the lengths of a page. */
+ * desk, and the lengths of a page and of a book. */
 #define OPTCHECK_OPTIONS 64u
 #define OPTCHECK_RULES 1024u
 #define OPTCHECK_DERIVED_PLACES 2048u /* pos and neg: equal lengths, at most this */
@@ -35,6 +36,7 @@ extern "C" {
 #define OPTCHECK_DRAFTS 16u           /* a desk: its drafts are 1 to this */
 #define OPTCHECK_PAGE_LINE 41u        /* a page: the bytes of a line */
 #define OPTCHECK_PAGE_BYTES 84009u    /* the longest page: a line, and one for each derived rule */
+#define OPTCHECK_BOOK_BYTES 16387u    /* the longest book: 3, and 16 for each rule */
 
 /*
  * Checks the order (wanted, unwanted, standard) against the book, with at most `allowance`
@@ -222,6 +224,34 @@ uint32_t optcheck_desk_keep(optcheck_desk *desk, uint32_t draft);
  */
 uint32_t optcheck_desk_return(optcheck_desk *desk, uint32_t draft);
 
+/*
+ * Joins two books into one and writes its bytes at the start of `book`.
+ *
+ *   pairs   options of the two books that are the same thing, two bytes a pair: an option of the
+ *           first book and one of the second, numbers from 1
+ *   length  the number of bytes written, 3 and 16 for each rule
+ *
+ * The first book's options keep their numbers. A paired option of the second book is its partner,
+ * and its other options follow in ascending order from the first book's last + 1 on. The rules are
+ * the first book's, and then the second's with these numbers. A choice keeps the joint book exactly
+ * if its two parts keep the two books.
+ *
+ * The result is 0; later bytes of `book` are not touched, and what it held plays no part. Or it is
+ * the number of a refusal, and neither a byte of `book` nor the length is touched:
+ *
+ *   1 to 6  of the first book, and then of the second, as of optcheck_check
+ *   22      pairs_len is odd, or a pair names an option that is not 1 to its book's last, or one
+ *           that an earlier pair names too, of either book
+ *   23      the joint book has more than OPTCHECK_OPTIONS options or OPTCHECK_RULES rules, or more
+ *           bytes than book_len; none has more than OPTCHECK_BOOK_BYTES
+ */
+uint32_t optcheck_join(
+    const uint8_t *first, size_t first_len,
+    const uint8_t *second, size_t second_len,
+    const uint8_t *pairs, size_t pairs_len,
+    uint8_t *book, size_t book_len,
+    size_t *length);
+
 /* The kinds of an answer. */
 #define OPTCHECK_CAN 0u
 #define OPTCHECK_CANNOT 1u
@@ -244,7 +274,8 @@ static inline unsigned optcheck_kind(uint64_t answer) { return (unsigned)(answer
 /*
  * 0 for a verdict, 1 to 9 or 12 refused (12: a standard option above the book's last), 10 or 11
  * stopped. 19 and 20 are refusals of optcheck_undecided alone, and 21 one of optcheck_site alone.
- * 13, 14 and 15 are no answer's numbers: a morning that is refused has no answers, nor has a desk.
+ * 13, 14, 15, 22 and 23 are no answer's numbers: a morning that is refused has no answers, and a
+ * desk and joined books have none.
  */
 static inline unsigned optcheck_number(uint64_t answer) { return (unsigned)(answer >> 2 & 63); }
 

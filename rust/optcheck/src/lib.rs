@@ -1,6 +1,6 @@
 //! A safe wrapper over the proved checker's static library (include/optcheck.h). `check`, `morning`,
-//! `undecided`, `sites`, `Terminal`, `page` and `Desk` are there with the feature `proved`; without it
-//! nothing is linked.
+//! `undecided`, `sites`, `Terminal`, `page`, `Desk` and `join` are there with the feature `proved`; without
+//! it nothing is linked.
 
 mod answer;
 mod desk;
@@ -19,6 +19,8 @@ pub use library::{desk_clear_words, desk_fresh_words, desk_keep_words, desk_retu
 #[cfg(feature = "proved")]
 pub use library::{desk_set_words, Desk};
 #[cfg(feature = "proved")]
+pub use library::{join, join_bytes};
+#[cfg(feature = "proved")]
 pub use library::{page, page_bytes};
 #[cfg(feature = "proved")]
 pub use library::{site_words, sites, terminal_words, Site, Terminal};
@@ -26,6 +28,9 @@ pub use order::Order;
 pub use page::{Page, PAGE_BYTES, PAGE_LINE};
 use std::ops::Range;
 pub use tried::{Tried, Verdict};
+
+/// The bytes of the longest book, which has 1,024 rules.
+pub const BOOK_BYTES: usize = 3 + 16 * 1024;
 
 /// The lent tables: two for derived rules, three for records. A bad length is a refusal.
 pub struct Tables<'a> {
@@ -48,6 +53,12 @@ pub fn part(length: usize, orders: usize, index: usize) -> Range<usize> {
 #[cfg(test)]
 mod tests {
     use super::*;
+
+    #[test]
+    fn the_longest_book_has_the_headers_length() {
+        let header = include_str!("../include/optcheck.h");
+        assert!(header.contains(&format!("#define OPTCHECK_BOOK_BYTES {BOOK_BYTES}u ")));
+    }
 
     #[test]
     fn parts_stand_one_after_the_other_and_a_remainder_belongs_to_none() {

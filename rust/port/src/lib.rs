@@ -5,12 +5,13 @@
 //! `morning` takes several orders of one book, and gives the outcome of each. `undecided` takes an order
 //! with open options, and tries every setting of them. `sites` takes several orders of one book that
 //! share one allowance. `page` makes the page of an outcome. `Desk` is an order with drafts to come back to,
-//! as the list of its calls, and `DeskWords` what a call does to a desk of any words. `run_program` does what
-//! the program does with its standard input.
+//! as the list of its calls, and `DeskWords` what a call does to a desk of any words. `join` makes one book of
+//! two. `run_program` does what the program does with its standard input.
 
 mod book;
 mod desk;
 mod desk_words;
+mod join;
 mod morning;
 mod outcome;
 mod page;
@@ -23,6 +24,7 @@ mod words;
 
 pub use desk::{Call, Desk, Standing};
 pub use desk_words::DeskWords;
+pub use join::join;
 pub use morning::{morning, Morning};
 pub use outcome::{Ending, Outcome, CAN, CANNOT};
 pub use page::page;

@@ -4,6 +4,7 @@
 
 mod check;
 mod desk;
+mod join;
 mod morning;
 mod open;
 mod page;
@@ -13,6 +14,7 @@ mod terminal;
 
 pub use check::{Check, ORDER};
 pub use desk::{answers_text, Answers, Desk};
+pub use join::{joined_text, Join, Joined};
 pub use morning::Morning;
 pub use open::{tried_text, verdict_name, Open};
 pub use page::Page;
@@ -35,6 +37,7 @@ pub enum Question {
     Page(Page),
     Desk(Desk),
     State(Box<State>),
+    Join(Join),
 }
 
 impl Question {
@@ -53,6 +56,7 @@ impl Question {
             ("filed", "") => Ok(Page::read(fields)?.into()),
             ("desk", options) => Ok(Desk::read(options, fields)?.into()),
             ("state", "") => Ok(State::read(fields)?.into()),
+            ("join", "") => Ok(Join::read(fields)?.into()),
             (key, _) => Err(format!("`{key}` is no question")),
         }
     }
@@ -68,6 +72,7 @@ impl Question {
             Question::Page(page) => page.port_page(),
             Question::Desk(desk) => answers_text(&desk.port_answers()),
             Question::State(state) => state_text(&state.port_after()),
+            Question::Join(join) => joined_text(&join.port_joined()),
         }
     }
 }
@@ -117,6 +122,12 @@ impl From<Desk> for Question {
 impl From<State> for Question {
     fn from(state: State) -> Question {
         Question::State(Box::new(state))
+    }
+}
+
+impl From<Join> for Question {
+    fn from(join: Join) -> Question {
+        Question::Join(join)
     }
 }
 

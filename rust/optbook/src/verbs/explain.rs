@@ -11,8 +11,8 @@ use optbook::explain::{smallest, Kept};
 use optbook::mistake::Place;
 use optbook::outcome::ending;
 use optbook::sheet::{order, rules, Demand, Sheet};
-use optbook::text::{rule_text, set_text};
-use optbook::{option, Book};
+use optbook::text::{commented, demand_text, set_names};
+use optbook::Book;
 
 pub const VERB: Verb = Verb {
     name: "explain",
@@ -36,6 +36,7 @@ a verdict; 64 bad command line, 65 a mistake in BOOK or ORDER.
 ",
     files: (1, 2),
     flags: &LIMITS,
+    switches: &[],
     run,
 };
 
@@ -72,36 +73,20 @@ fn told(sheet: &Sheet, kept: &[Kept<&(Demand, Place)>]) -> String {
         true => "# without any one of them the others can be kept\n",
         false => "# without one of them the others can be kept, but for those marked\n",
     };
-    let lines: Vec<String> = kept.iter().map(|kept| line(kept.demand.0, &sheet.names)).collect();
-    let width = lines.iter().map(|line| line.len()).max().unwrap_or(0);
-    text += &format!("options: {}\n", names(sheet, kept).join(" "));
-    for (line, kept) in lines.iter().zip(kept) {
-        let mark = if kept.needed { "" } else { " (may not be needed: a check stopped)" };
-        text += &format!("{line:width$}  # {}{mark}\n", on_one_line(&kept.demand.1));
-    }
-    text
-}
-
-/// The names that stand in what stayed, in the book's order.
-fn names<'a>(sheet: &'a Sheet, kept: &[Kept<&(Demand, Place)>]) -> Vec<&'a str> {
     let named = kept.iter().fold(0, |set, kept| set | options(kept.demand.0));
-    let indexed = sheet.names.iter().enumerate();
-    indexed.filter(|(i, _)| named & option(*i) != 0).map(|(_, name)| name.as_str()).collect()
+    text += &format!("options: {}\n", set_names(named, &sheet.names).join(" "));
+    let line = |kept: &Kept<&(Demand, Place)>| {
+        let mark = if kept.needed { "" } else { " (may not be needed: a check stopped)" };
+        let (demand, place) = kept.demand;
+        (demand_text(*demand, &sheet.names), format!("{}{mark}", on_one_line(place)))
+    };
+    text + &commented(&kept.iter().map(line).collect::<Vec<_>>())
 }
 
 fn options(demand: Demand) -> u64 {
     match demand {
         Demand::Rule(rule) => rule.fitted | rule.left_out,
         Demand::Standard(option) | Demand::Want(option) | Demand::Without(option) => option,
-    }
-}
-
-fn line(demand: Demand, names: &[String]) -> String {
-    match demand {
-        Demand::Rule(rule) => rule_text(rule, names),
-        Demand::Standard(option) => format!("standard: {}", set_text(option, names)),
-        Demand::Want(option) => format!("want: {}", set_text(option, names)),
-        Demand::Without(option) => format!("without: {}", set_text(option, names)),
     }
 }
 

@@ -6,6 +6,7 @@ mod desk;
 mod dimacs;
 mod explain;
 mod from_dimacs;
+mod join;
 mod morning;
 mod open;
 mod page;
@@ -25,6 +26,7 @@ pub const VERBS: &[Verb] = &[
     explain::VERB,
     page::VERB,
     desk::VERB,
+    join::VERB,
     bytes::VERB,
     text::VERB,
     dimacs::VERB,
@@ -32,7 +34,7 @@ pub const VERBS: &[Verb] = &[
 ];
 
 /// A verb: its name, what may follow it, what it does in one line, an example, the rest of its help,
-/// how many files it takes, the flags that it knows, and how it runs.
+/// how many files it takes, the flags and the switches that it knows, and how it runs.
 pub struct Verb {
     pub name: &'static str,
     pub takes: &'static str,
@@ -41,6 +43,7 @@ pub struct Verb {
     pub more: &'static str,
     pub files: Files,
     pub flags: &'static [&'static str],
+    pub switches: &'static [&'static str],
     pub run: fn(&Arguments) -> Result<Printed, Failure>,
 }
 
@@ -72,6 +75,7 @@ pub fn help() -> String {
 const FORM: &str = "
 BOOK and ORDER are readable texts, which are read one after the other; - is standard input. ORDERS
 are several such texts, each read after BOOK, and NAMES are names of options; FILE of desk has commands.
+FIRST and SECOND of join are two books, and PAIRS are NAME=NAME, a name of the one and one of the other.
 `optbook VERB --help` tells more of a verb. A text has one thing a line:
 
   options: ring_main twin_header third_vessel
@@ -83,7 +87,8 @@ are several such texts, each read after BOOK, and NAMES are names of options; FI
 Exit status: check, explain and page end with 0 where the order can be built, 1 where it cannot, 2
 where the checker refuses it, 3 where it stops without a verdict, and morning and sites with the highest
 of their orders; open with 0 where every setting can be built, 1 where none can, 2 and 3 likewise, and 4
-where some can but not all; the other verbs with 0. All end with 64 on a bad command line, with 65 where
-what is read has a mistake or cannot be read, and with 74 where the output cannot be written. desk goes on
-after a mistake in its commands: at a terminal it ends with 0, and otherwise then with 65.
+where some can but not all; join with 2 where the joint book is refused; and else the other verbs with 0.
+All end with 64 on a bad command line, with 65 where what is read has a mistake or cannot be read, and with
+74 where the output cannot be written. desk goes on after a mistake in its commands: at a terminal it ends
+with 0, and otherwise then with 65.
 ";

@@ -1,9 +1,9 @@
 //! Where nothing is checked: the forms of a book there and back, mistakes, bad command lines and the
 //! help.
 
-use crate::run::{optbook, CAN, PLANT};
+use crate::run::{optbook, CAN, DOSING, DRYING, PLANT};
 
-const VERBS: [&str; 11] = [
+const VERBS: [&str; 12] = [
     "check",
     "morning",
     "open",
@@ -11,6 +11,7 @@ const VERBS: [&str; 11] = [
     "explain",
     "page",
     "desk",
+    "join",
     "bytes",
     "text",
     "dimacs",
@@ -137,6 +138,41 @@ fn a_mistake_in_the_book_of_a_desk_is_told_before_a_command_is_read() {
 }
 
 #[test]
+fn a_mistake_in_the_books_to_join_is_told() {
+    let words = |names| ["join", DOSING, "-", names];
+    let ended = optbook(&words("steam=steam"), b"options: steam\nsteam | vapour\n");
+    let due = "optbook: standard input: line 2: no option is named `vapour`: expected a name of \
+               an `options:` line\n";
+    assert_eq!((ended.said.as_str(), ended.status), (due, 65));
+    let ended = optbook(&words("steam=vapor"), b"options: vapour\n");
+    let due = "optbook: PAIRS: standard input: no option is named `vapor`: expected a name of an \
+               `options:` line\n";
+    assert_eq!((ended.said.as_str(), ended.status), (due, 65));
+    let ended = optbook(&words("stem=vapour"), b"options: vapour\n");
+    let due = "optbook: PAIRS: examples/dosing.book: no option is named `stem`: expected a name \
+               of an `options:` line\n";
+    assert_eq!((ended.said.as_str(), ended.status), (due, 65));
+    assert!(ended.printed.is_empty());
+    let ended = optbook(&["join", DOSING, "no-such-file"], b"");
+    assert!(ended.said.starts_with("optbook: no-such-file: "), "{}", ended.said);
+    assert_eq!(ended.status, 65);
+}
+
+#[test]
+fn a_name_of_both_books_that_is_not_paired_is_told() {
+    let ended = optbook(&["join", DOSING, DRYING, "cabinet=panel"], b"");
+    let due = "optbook: PAIRS: both books name water steam, and no pair takes them as one: expected \
+               `water=water` or `--same-names` where they are the same thing, and else other names in \
+               one of the books\n";
+    assert_eq!((ended.said.as_str(), ended.status), (due, 65));
+    assert!(ended.printed.is_empty());
+    let ended = optbook(&["join", DOSING, DRYING, "steam=panel", "--same-names"], b"");
+    let due = "optbook: PAIRS: both books name steam, and no pair takes them as one: expected \
+               other names in one of the books\n";
+    assert_eq!((ended.said.as_str(), ended.status), (due, 65));
+}
+
+#[test]
 fn what_cannot_be_read_is_told_with_its_file() {
     let ended = optbook(&["bytes", "no-such-file"], b"");
     assert!(ended.said.starts_with("optbook: no-such-file: "), "{}", ended.said);
@@ -187,6 +223,23 @@ fn a_bad_command_line_ends_with_64_and_says_how() {
             "`-` is BOOK, and the commands come from standard input too: expected FILE",
         ),
         (&["desk", PLANT, "--drafts", "3"], "`--drafts` is unknown here"),
+        (&["join", DOSING], "1 files are given: expected 2 at least"),
+        (&["join", "-", "-"], "`-` stands twice: standard input is read once"),
+        (
+            &["join", DOSING, DRYING, "steam"],
+            "`steam` is no pair: expected NAME=NAME, an option of FIRST and the same of SECOND",
+        ),
+        (
+            &["join", "no-such-file", DRYING, "cabinet=panel", "steam=steam=steam"],
+            "`steam=steam=steam` is no pair: expected NAME=NAME, an option of FIRST and the same of \
+             SECOND",
+        ),
+        (&["join", DOSING, DRYING, "--pairs", "a=b"], "`--pairs` is unknown here"),
+        (
+            &["join", DOSING, "--same-names", DRYING, "--same-names"],
+            "`--same-names` is given twice: expected it once",
+        ),
+        (&["check", PLANT, "--same-names"], "`--same-names` is unknown here"),
         (&["check", "-", "-"], "`-` stands twice: standard input is read once"),
         (&["bytes", PLANT, "--places", "1"], "`--places` is unknown here"),
         (
@@ -229,10 +282,13 @@ fn the_help_has_an_example_of_each_verb() {
 
 #[cfg(not(feature = "proved"))]
 #[test]
-fn without_the_library_nothing_is_checked() {
+fn without_the_library_nothing_is_checked_or_joined() {
     for verb in ["check", "morning", "open", "sites", "explain", "page", "desk"] {
         let ended = optbook(&[verb, PLANT, CAN], b"");
         assert!(ended.said.starts_with("optbook: built without the proved library"));
         assert_eq!((ended.status, ended.printed.len()), (69, 0));
     }
+    let ended = optbook(&["join", DOSING, DRYING, "cabinet=panel", "--same-names"], b"");
+    assert!(ended.said.starts_with("optbook: built without the proved library"));
+    assert_eq!((ended.status, ended.printed.len()), (69, 0));
 }

@@ -4,6 +4,8 @@
 mod desk;
 mod forms;
 #[cfg(feature = "proved")]
+mod join;
+#[cfg(feature = "proved")]
 mod morning;
 #[cfg(feature = "proved")]
 mod open;

@@ -1,4 +1,4 @@
-//! Running the command `optbook`, and the example plant.
+//! Running the command `optbook`, and the examples.
 
 use std::io::{ErrorKind, Write};
 use std::path::Path;
@@ -45,3 +45,5 @@ pub fn file(name: &str, text: &str) -> String {
 
 pub const PLANT: &str = "examples/plant.book";
 pub const CAN: &str = "examples/plant.order";
+pub const DOSING: &str = "examples/dosing.book";
+pub const DRYING: &str = "examples/drying.book";

@@ -6,7 +6,8 @@ pub const RUBBISH: u64 = 0xa5a5_5a5a_a5a5_5a5a;
 
 /// A book of n options: the fitted words of its rules, and then the left-out words.
 pub fn book(n: u8, words: &[u64]) -> Vec<u8> {
-    let mut book = vec![n, words.len() as u8 / 2, 0];
+    let rules = words.len() / 2;
+    let mut book = vec![n, rules as u8, (rules >> 8) as u8];
     words.iter().for_each(|word| book.extend(word.to_le_bytes()));
     book
 }

@@ -1,0 +1,4 @@
+-- Laws for the functions that join two books.
+pub mod Judged
+pub mod Renamed
+pub mod Joined

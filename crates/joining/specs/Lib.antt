@@ -1,0 +1,2 @@
+-- What the functions under the entry point promise.
+pub mod Promises

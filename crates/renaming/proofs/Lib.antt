@@ -1,0 +1,4 @@
+-- Laws of variables under other numbers.
+pub mod Images
+pub mod Keeping
+pub mod Demands
