@@ -1,14 +1,17 @@
 -- The first row that holds. A row that holds is the first, one that does not is passed over, and so are rows of which none holds. Where each row
 -- decides its condition, the first row that holds is at the first condition that does: by the rows, one at a time, whether the first holds or not.
-use mathlib.Core.Path.{_≡_, refl, sym, _∙_}
+use mathlib.Core.Path.{_≡_, refl, sym, subst, _∙_}
 use mathlib.Core.Bool.{Bool, true, false}
 use mathlib.Core.List.{List, [], _∷_, _++_}
 use mathlib.Core.Logic.{_⊎_, _↔_, inl, inr, ⊎-elim}
 use mathlib.Core.Option.{some, none}
-use Prim.Native.Nat.{ℕ}
+use Prim.Native.Nat.{ℕ, _≤_}
+use native.Mathlib.Omega.{arith}
 use Rattle.words.proofs.Truth.{both-ways, clash, refuted}
+use Rattle.steps.specs.Clause.{Clause}
+use Rattle.book.specs.Bytes.{varsIn, rulesIn}
 use Rattle.book.specs.Refusals.{Row, firstRow}
-use Rattle.book.specs.Conditions.{Condition, First, NoRow, Decides}
+use Rattle.book.specs.Conditions.{Condition, First, NoRow, Decides, ruleConditions, bookConditions}
 
 -- no row, none that holds
 pub first-none : firstRow [] ≡ none
@@ -132,3 +135,29 @@ no-first (a ∷ cs) ds h = (h .0, no-first cs ds (h .1))
 pub no-second : (cs ds : List Condition) → NoRow (cs ++ ds) → NoRow ds
 no-second [] ds h = h
 no-second (a ∷ cs) ds h = no-second cs ds (h .1)
+
+-- ---- numbers
+
+-- P is true of the number of every condition
+abbrev pub Numbers : (ℕ → Type 0) → List Condition → Type 0
+Numbers P [] = Unit {0}
+Numbers P (a ∷ cs) = P (a .number) × Numbers P cs
+
+-- so it is of that of the first condition that holds
+pub first-number : (P : ℕ → Type 0) (cs : List Condition) (k : ℕ) → Numbers P cs → First cs k → P k
+first-number P [] k h f = absurd f
+first-number P (a ∷ cs) k h (inl here) = subst P (here .1) (h .0)
+first-number P (a ∷ cs) k h (inr later) = first-number P cs k (h .1) (later .1)
+
+pub append-numbers : (P : ℕ → Type 0) (cs ds : List Condition) → Numbers P cs → Numbers P ds → Numbers P (cs ++ ds)
+append-numbers P [] ds h g = g
+append-numbers P (a ∷ cs) ds h g = (h .0, append-numbers P cs ds (h .1) g)
+
+-- of a book it is true where it is of 1 to 6
+pub book-numbers : (P : ℕ → Type 0) → ((k : ℕ) → 1 ≤ k → k ≤ 6 → P k) → (bytes : List ℕ) → Numbers P (bookConditions bytes)
+book-numbers P h bytes =
+    (h 1 (omega arith) (omega arith), (h 2 (omega arith) (omega arith), (h 3 (omega arith) (omega arith), (h 4 (omega arith) (omega arith), rules (varsIn bytes) (rulesIn bytes)))))
+  where
+    rules : (n : ℕ) (cs : List Clause) → Numbers P (ruleConditions n cs)
+    rules n [] = tt
+    rules n (c ∷ cs) = (h 5 (omega arith) (omega arith), (h 6 (omega arith) (omega arith), rules n cs))

@@ -10,14 +10,13 @@ use native.Mathlib.Omega.{arith}
 use borrow.Author.Tests.{eqb-true, eq-eqb, ltb-false, le-ltb, not-false}
 use lib.Dec.{eqb, ltb}
 use Rattle.words.proofs.Truth.{both-ways, clash, or-neither}
-use Rattle.steps.specs.Clause.{Clause}
 use Rattle.steps.specs.Run.{Outcome}
 use Rattle.order.specs.Order.{Order}
 use Rattle.book.specs.Limits.{maxDerived, minRecords}
 use Rattle.book.specs.Bytes.{varsIn, rulesIn}
 use Rattle.book.specs.Refusals.{row, firstRow, admitRows}
-use Rattle.book.specs.Conditions.{Condition, condition, First, Decides, ruleConditions, bookConditions, orderConditions, admitConditions}
-use Rattle.book.proofs.Refusals.{first-none, first-later, none-here, first-among, first-after, none-among, decides-append, first-iff, none-iff}
+use Rattle.book.specs.Conditions.{condition, First, Decides, bookConditions, orderConditions, admitConditions}
+use Rattle.book.proofs.Refusals.{first-none, first-later, none-here, first-among, first-after, none-among, decides-append, first-iff, none-iff, first-number, append-numbers, book-numbers}
 use Rattle.book.proofs.Conditions.{rows-decide}
 use Rattle.contract.specs.Check.{Lengths, tablesFault, tableRows, checkRows, outcome, Result.refused, Result.ran, resultBy, check}
 use Rattle.contract.specs.Demands.{Permitted, checkConditions, Refusals, Runs}
@@ -158,39 +157,14 @@ same-check bytes o allowance l l′ p p′ e = go (firstRow (admitRows bytes o))
 abbrev Numbered : ℕ → Type 0
 Numbered k = ((1 ≤ k) × (k ≤ 9)) ⊎ (k ≡ 12)
 
-up-to-nine : {k : ℕ} → 1 ≤ k → k ≤ 9 → Numbered k
-up-to-nine l h = inl (l, h)
-
--- every number is one
-abbrev AllNumbered : List Condition → Type 0
-AllNumbered [] = Unit {0}
-AllNumbered (a ∷ cs) = Numbered (a .number) × AllNumbered cs
-
--- so is that of the first condition that holds
-first-numbered : (cs : List Condition) (k : ℕ) → AllNumbered cs → First cs k → Numbered k
-first-numbered [] k h f = absurd f
-first-numbered (a ∷ cs) k h (inl here) = subst Numbered (here .1) (h .0)
-first-numbered (a ∷ cs) k h (inr later) = first-numbered cs k (h .1) (later .1)
-
-append-numbered : (cs ds : List Condition) → AllNumbered cs → AllNumbered ds → AllNumbered (cs ++ ds)
-append-numbered [] ds h g = g
-append-numbered (a ∷ cs) ds h g = (h .0, append-numbered cs ds (h .1) g)
-
-rules-numbered : (n : ℕ) (rules : List Clause) → AllNumbered (ruleConditions n rules)
-rules-numbered n [] = tt
-rules-numbered n (c ∷ rules) = (up-to-nine (omega arith) (omega arith), (up-to-nine (omega arith) (omega arith), rules-numbered n rules))
+up-to-nine : (k : ℕ) → 1 ≤ k → k ≤ 9 → Numbered k
+up-to-nine k l h = inl (l, h)
 
 -- the number of a refusal
 pub numbered : (bytes : List ℕ) (o : Order) (l : Lengths) (k : ℕ) → First (checkConditions bytes o l) k → ((1 ≤ k) × (k ≤ 9)) ⊎ (k ≡ 12)
 numbered bytes o l k =
-    first-numbered (checkConditions bytes o l) k
-    (append-numbered (admitConditions bytes o) _
-    (append-numbered (bookConditions bytes) (orderConditions (varsIn bytes) o) (
-      up-to-nine (omega arith) (omega arith),
-      (
-        up-to-nine (omega arith) (omega arith),
-        (up-to-nine (omega arith) (omega arith), (up-to-nine (omega arith) (omega arith), rules-numbered (varsIn bytes) (rulesIn bytes))),
-      ),
-    )
-    (up-to-nine (omega arith) (omega arith), (up-to-nine (omega arith) (omega arith), (inr refl, tt))))
-    (up-to-nine (omega arith) (omega arith), tt))
+    first-number Numbered (checkConditions bytes o l) k
+    (append-numbers Numbered (admitConditions bytes o) _
+    (append-numbers Numbered (bookConditions bytes) (orderConditions (varsIn bytes) o) (book-numbers Numbered (λ j low high. up-to-nine j low (omega arith)) bytes)
+    (up-to-nine 7 (omega arith) (omega arith), (up-to-nine 8 (omega arith) (omega arith), (inr refl, tt))))
+    (up-to-nine 9 (omega arith) (omega arith), tt))

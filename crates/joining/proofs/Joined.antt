@@ -11,7 +11,6 @@ use borrow.Author.Tests.{le-ltb}
 use lib.Count.{ones}
 use lib.ListN.{length, getD}
 use Rattle.words.specs.Words.{minus, firstOf}
-use Rattle.steps.specs.Clause.{Clause}
 use Rattle.rows.specs.Rows.{clauseWords, clauses}
 use Rattle.rows.proofs.Tables.{clauses-length}
 use Rattle.book.specs.Limits.{maxClauses}
@@ -34,7 +33,7 @@ use Rattle.joint.proofs.Pairs.{fits}
 use Rattle.joint.proofs.Places.{below-all, places-into}
 use Rattle.joint.proofs.Judging.{Faultless, faultless, fitting}
 use Rattle.joint.proofs.Choices.{joint-rules}
-use Rattle.joining.specs.Promises.{bookOf, Held, JoinsTo, JoinsBooks, judgedAs, placeIn, Appendable}
+use Rattle.joining.specs.Promises.{bookOf, Held, Small, Sizes, Writes, JoinsTo, JoinsBooks, judgedAs, placeIn, Appendable}
 use Rattle.joining.specs.declared.pairs.Paired.the-variants.{Options, Fault}
 use Rattle.joining.proofs.Judged.{judged-fault, judged-options}
 
@@ -45,13 +44,20 @@ pub unpaired-count : (m first rest count q : ℕ) → m ≤ 64 → first ≡ fir
 unpaired-count m first rest count q few ef er ec = ec ∙ ap ones (er ∙ ap (λ w. minus w q) (ef ∙ ap firstOf (min-eq-left few)))
 
 -- a book that fits is written at the beginning
-pub written-whole : (n m : ℕ) (cs : List Clause) (out after : List ℕ) → length cs ≡ m → bookBytes m ≤ length out → after ≡ writtenTo out (book n cs) → after ≡ placed out 0 (encode n cs)
+pub written-whole : (b : declared.Book) (t out after : List ℕ) → bookBytes (b .clauses) ≤ length out → after ≡ writtenTo out (book (b .vars) (clauses t (b .clauses)))
+    → Writes (bookOf b t) out (Written (bookBytes (b .clauses))) after
 unfolding writtenTo
-written-whole n m cs out after count room e =
-    let long : length (encode n cs) ≤ length out = omega (arith, length-encode n cs, count) in
-    e ∙ rw (le-ltb _ _ long, writtenTo)
+written-whole b t out after room e =
+    let cs = clauses t (b .clauses) in
+    let count = clauses-length t (b .clauses) in
+    let long : length (encode (b .vars) cs) ≤ length out = omega (arith, length-encode (b .vars) cs, count) in
+    record { answer = ap (λ m. Written (bookBytes m)) (sym count); out = e ∙ rw (le-ltb _ _ long, writtenTo) }
 
 -- ---- two books in work tables
+
+-- a book that was read is within the limits
+pub small : (b : declared.Book) (t : List ℕ) → Held b t → Small b
+small b t h = record { vars = h .formed .vars-few; clauses = omega (arith, clauses-length t (b .clauses), h .formed .clauses-few) }
 
 module _ (a b : declared.Book) (t u pairs : List ℕ) (ha : Held a t) (hb : Held b u) where
   abbrev A : Book
@@ -66,13 +72,6 @@ module _ (a b : declared.Book) (t u pairs : List ℕ) (ha : Held a t) (hb : Held
 
   abbrev twenty-three : ℕ → Row
   twenty-three room = row 23 (tooLarge (jointVars A B pairs) (jointCount A B) room)
-
-  -- within the limits
-  pub first-few : a .clauses ≤ maxClauses
-  first-few = omega (arith, clauses-length t (a .clauses), ha .formed .clauses-few)
-
-  pub second-few : b .clauses ≤ maxClauses
-  second-few = omega (arith, clauses-length u (b .clauses), hb .formed .clauses-few)
 
   -- a pair at fault
   pub books-fault : (out : List ℕ) (x : ℕ) → Fault ≡ judgedAs (pairsFault (a .vars) (b .vars) pairs) x → JoinsBooks A B pairs out (Refused 22) out
@@ -93,23 +92,23 @@ module _ (a b : declared.Book) (t u pairs : List ℕ) (ha : Held a t) (hb : Held
     pub first-low : (i : ℕ) → i < pairCount pairs → 0 < option 0 pairs i
     first-low i h = fits 0 pairs (a .vars) (pairCount pairs) (sides .first) i h .low
 
-    module _ (s : declared.Book) (vars : s .vars ≡ a .vars + ones (minus (firstOf (b .vars)) p)) (count : s .clauses ≡ a .clauses + b .clauses) where
+    module _ (s : declared.Book) (sizes : Sizes a b p s) where
       -- the sizes are the joint book's
       vars-are : s .vars ≡ jointVars A B pairs
       unfolding unpairedBelow
       vars-are =
-          vars ∙ ap (λ w. a .vars + ones (minus (firstOf (b .vars)) w)) paired-are
+          sizes .vars ∙ ap (λ w. a .vars + ones (minus (firstOf (b .vars)) w)) paired-are
           ∙ ap (λ k. a .vars + k) (below-all (a .vars) (b .vars) pairs (sides .first) (sides .second))
 
       count-are : s .clauses ≡ jointCount A B
-      count-are = omega (arith, count, clauses-length t (a .clauses), clauses-length u (b .clauses))
+      count-are = omega (arith, sizes .clauses, clauses-length t (a .clauses), clauses-length u (b .clauses))
 
       large-are : (room : ℕ) → tooLarge (s .vars) (s .clauses) room ≡ tooLarge (jointVars A B pairs) (jointCount A B) room
       large-are room = ap₂ (λ n m. tooLarge n m room) vars-are count-are
 
       -- not more clauses than two books have
       pub count-few : s .clauses ≤ maxClauses + maxClauses
-      count-few = omega (arith, count, first-few, second-few)
+      count-few = omega (arith, sizes .clauses, small a t ha .clauses, small b u hb .clauses)
 
       -- too large
       pub books-large : (out : List ℕ) (r : Bool) → r ≡ tooLarge (s .vars) (s .clauses) (length out) → r ≡ true → JoinsBooks A B pairs out (Refused 23) out
@@ -122,9 +121,9 @@ module _ (a b : declared.Book) (t u pairs : List ℕ) (ha : Held a t) (hb : Held
                 (first-later twenty-two _ no-fault ∙ first-here (twenty-three (length out)) [] (sym (large-are (length out)) ∙ sym er ∙ e)));
           }
 
-      module _ (room : ℕ) (r : Bool) (er : r ≡ tooLarge (s .vars) (s .clauses) room) (small : r ≡ false) where
+      module _ (room : ℕ) (r : Bool) (er : r ≡ tooLarge (s .vars) (s .clauses) room) (not-large : r ≡ false) where
         pub fit : Fitting (s .vars) (s .clauses) room
-        fit = fitting (s .vars) (s .clauses) room (sym er ∙ small)
+        fit = fitting (s .vars) (s .clauses) room (sym er ∙ not-large)
 
         module _ (places : List ℕ) (placed-as : (k : ℕ) → k < b .vars → getD places k 0 ≡ place (a .vars) pairs k) where
           -- each place is the number of a bit
@@ -141,8 +140,8 @@ module _ (a b : declared.Book) (t u pairs : List ℕ) (ha : Held a t) (hb : Held
           pub appendable : Appendable (a .clauses) (b .clauses) places u t
           appendable =
               record {
-                from = omega (arith, hb .room, second-few);
-                room = omega (arith, ha .room, fit .clauses, count);
+                from = omega (arith, hb .room, small b u hb .clauses);
+                room = omega (arith, ha .room, fit .clauses, sizes .clauses);
                 placeable = λ c h.
                     let proper = hb .formed .proper c h in
                     record { pos = λ k m. bit k (literal-below true (b .vars) c proper k m); neg = λ k m. bit k (literal-below false (b .vars) c proper k m) };
@@ -153,7 +152,7 @@ module _ (a b : declared.Book) (t u pairs : List ℕ) (ha : Held a t) (hb : Held
               (t′ : List ℕ) → clauses t′ (a .clauses + b .clauses) ≡ clauses t (a .clauses) ++ map (renamed (placeIn places) 64) (clauses u (b .clauses)) →
               clauses t′ (s .clauses) ≡ jointRules A B pairs
           rules-are t′ e =
-              ap (clauses t′) count ∙ e
+              ap (clauses t′) (sizes .clauses) ∙ e
               ∙ ap (λ l. clauses t (a .clauses) ++ l)
               (renamed-same (placeIn places) (place (a .vars) pairs) (b .vars) 64 (clauses u (b .clauses)) (hb .formed .vars-few) (hb .formed .proper) placed-as)
               ∙ sym (joint-rules A B pairs)
@@ -162,19 +161,19 @@ module _ (a b : declared.Book) (t u pairs : List ℕ) (ha : Held a t) (hb : Held
           pub books-written :
               (out after t′ : List ℕ) (answer : Joined) → length out ≡ room →
               clauses t′ (a .clauses + b .clauses) ≡ clauses t (a .clauses) ++ map (renamed (placeIn places) 64) (clauses u (b .clauses)) →
-              answer ≡ Written (bookBytes (s .clauses)) → after ≡ placed out 0 (encode (s .vars) (clauses t′ (s .clauses))) → JoinsBooks A B pairs out answer after
+              Writes (bookOf s t′) out answer after → JoinsBooks A B pairs out answer after
           unfolding leftBy jointBytes
-          books-written out after t′ answer same put ea eo =
+          books-written out after t′ answer same put writes =
               let bytes : encode (s .vars) (clauses t′ (s .clauses)) ≡ jointBytes A B pairs = ap₂ encode vars-are (rules-are t′ put) in
-              let size : bookBytes (s .clauses) ≡ length (jointBytes A B pairs) =
-              ap bookBytes (sym (clauses-length t′ (s .clauses))) ∙ sym (length-encode (s .vars) (clauses t′ (s .clauses))) ∙ ap length bytes
+              let size : bookBytes (length (clauses t′ (s .clauses))) ≡ length (jointBytes A B pairs) =
+              sym (length-encode (s .vars) (clauses t′ (s .clauses))) ∙ ap length bytes
               in
               let passes : tooLarge (jointVars A B pairs) (jointCount A B) (length out) ≡ false =
-              ap (tooLarge (jointVars A B pairs) (jointCount A B)) same ∙ sym (large-are room) ∙ sym er ∙ small
+              ap (tooLarge (jointVars A B pairs) (jointCount A B)) same ∙ sym (large-are room) ∙ sym er ∙ not-large
               in
               record {
                 left =
-                    ap₂ (λ x y. record { answer = x; out = y }) (ea ∙ ap Written size) (eo ∙ ap (placed out 0) bytes)
+                    ap₂ (λ x y. record { answer = x; out = y }) (writes .answer ∙ ap Written size) (writes .out ∙ ap (placed out 0) bytes)
                     ∙ sym (ap (leftBy A B pairs out) (first-later twenty-two _ no-fault ∙ first-later (twenty-three (length out)) [] passes ∙ first-none));
               }
 

@@ -3,16 +3,20 @@ use mathlib.Core.Path.{_≡_}
 use mathlib.Core.Bool.{Bool, true, false}
 use mathlib.Core.List.{List, _++_, List·Memᴰ}
 use Prim.Native.Nat.{ℕ, _+_, _≤_, _<_}
+use lib.Count.{ones}
 use lib.ListN.{length, getD}
-use Rattle.words.specs.Words.{has}
+use Rattle.words.specs.Words.{has, minus, firstOf}
 use Rattle.steps.specs.Clause.{Clause}
 use Rattle.rows.specs.Rows.{clauseWords, clauses}
-use Rattle.book.specs.Limits.{maxClauses}
+use Rattle.book.specs.Limits.{maxVars, maxClauses}
+use Rattle.book.specs.Bytes.{bookBytes, encode}
+use Rattle.book.specs.Written.{placed}
 use Rattle.book.specs.Refusals.{firstRow, bookRows}
 use Rattle.book.specs.Reading.{WellFormed}
 use Rattle.book.specs.declared.Book as declared
 use Rattle.joint.specs.Join.{Book, bookIn, jointRows, leftBy}
 use Rattle.joint.specs.declared.Joined.{Joined}
+use Rattle.joint.specs.declared.Joined.the-variants.{Written}
 use Rattle.joining.specs.declared.pairs.Paired.{Paired}
 use Rattle.joining.specs.declared.pairs.Paired.the-variants.{Options, Fault}
 
@@ -26,6 +30,21 @@ bookOf b t = record { vars = b .vars; rules = clauses t (b .clauses) }
 pub record Held (b : declared.Book) (t : List ℕ) : Type 0 where
   pub room : clauseWords maxClauses ≤ length t
   pub formed : WellFormed (b .vars) (clauses t (b .clauses))
+
+-- sizes within the limits
+pub record Small (b : declared.Book) : Type 0 where
+  pub vars : b .vars ≤ maxVars
+  pub clauses : b .clauses ≤ maxClauses
+
+-- the sizes of the joint book, where these options of the second are paired
+pub record Sizes (a b : declared.Book) (paired : ℕ) (r : declared.Book) : Type 0 where
+  pub vars : r .vars ≡ a .vars + ones (minus (firstOf (b .vars)) paired)
+  pub clauses : r .clauses ≡ a .clauses + b .clauses
+
+-- the book is written at the beginning of the buffer
+pub record Writes (b : Book) (before : List ℕ) (r : Joined) (after : List ℕ) : Type 0 where
+  pub answer : r ≡ Written (bookBytes (length (b .rules)))
+  pub out : after ≡ placed before 0 (encode (b .vars) (b .rules))
 
 -- the first book was read: 1 to 6 of the second, 22 and 23
 pub record JoinsTo (a : Book) (second pairs before : List ℕ) (r : Joined) (after : List ℕ) : Type 0 where

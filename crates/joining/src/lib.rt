@@ -2,15 +2,11 @@
 // the first's with their options in their places.
 ghost use mathlib.Core.Path.{_≡_};
 ghost use Prim.Native.Nat.{_+_, _≤_};
-ghost use lib.Count.{ones};
 ghost use lib.ListN.{length};
-ghost use Rattle.words.specs.Words.{minus, firstOf};
-ghost use Rattle.rows.specs.Rows.{clauseWords, clauses};
-ghost use Rattle.book.specs.Limits.{maxVars, maxClauses};
-ghost use Rattle.book.specs.Bytes.{bookBytes, encode};
-ghost use Rattle.book.specs.Written.{placed};
+ghost use Rattle.rows.specs.Rows.{clauseWords};
+ghost use Rattle.book.specs.Limits.{maxClauses};
 ghost use Rattle.joint.specs.Join.{Joins, Fitting, tooLarge};
-ghost use Rattle.joining.specs.Promises.{bookOf, Held, JoinsTo, JoinsBooks};
+ghost use Rattle.joining.specs.Promises.{bookOf, Held, Small, Sizes, Writes, JoinsTo, JoinsBooks};
 use book::Book;
 use book::Reading;
 use joint::Joined;
@@ -65,8 +61,8 @@ fn join_books(a: Book, b: Book, pairs: &[u8], u: &[u64], t: &mut [u64], out: &mu
 
 // How many options and clauses the joint book has, where `paired` are the second's paired options.
 fn sizes(a: Book, b: Book, paired: u64) -> Book
-    requires { ⌜ (a .vars ≤ maxVars) × (a .clauses ≤ maxClauses) × (b .vars ≤ maxVars) × (b .clauses ≤ maxClauses) ⌝ }
-    ensures { λ r. ⌜ (r .vars ≡ a .vars + ones (minus (firstOf (b .vars)) paired)) × (r .clauses ≡ a .clauses + b .clauses) ⌝ }
+    requires { ⌜ Small a × Small b ⌝ }
+    ensures { λ r. ⌜ Sizes a b paired r ⌝ }
 {
     Book {
         vars: a.vars + words::count_of(words::minus(words::first_of(b.vars), paired)),
@@ -91,7 +87,7 @@ fn too_large(joint: Book, room: usize) -> bool
 // Writes the joint book, whose clauses are the first of `t`.
 fn write(joint: Book, t: &[u64], out: &mut [u8]) -> Joined
     requires { ⌜ Fitting (joint .vars) (joint .clauses) (length (now out)) × (clauseWords maxClauses ≤ length (now t)) ⌝ }
-    ensures { λ r. ⌜ (r ≡ Joined.Written (bookBytes (joint .clauses))) × (now (out .exit) ≡ placed (now (out .entry)) 0 (encode (joint .vars) (clauses (now (t .entry)) (joint .clauses)))) ⌝ }
+    ensures { λ r. ⌜ Writes (bookOf joint (now (t .entry))) (now (out .entry)) r (now (out .exit)) ⌝ }
 {
     book::write_book(joint, t, out);
     Joined::Written(3 + 16 * joint.clauses)

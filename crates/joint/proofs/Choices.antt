@@ -2,7 +2,7 @@
 -- the joint ones. So its rules are proper, a choice keeps them exactly if its parts keep theirs, and two choices that agree on the pairs are put together by taking
 -- the first as it is and the second in its places.
 use mathlib.Core.Path.{_≡_, refl, sym, ap, ap₂, subst, _∙_}
-use mathlib.Core.Bool.{Bool, true, false, _&&_, and-true}
+use mathlib.Core.Bool.{Bool, true, false, _&&_, and-true, and-assoc}
 use mathlib.Core.List.{List, [], _∷_, _++_, map, List·Memᴰ, List·Memᴰ·append-cases, Memᴰ·of-map}
 use mathlib.Core.Logic.{_⊎_, inl, inr, ⊎-elim}
 use mathlib.Core.Option.{none}
@@ -121,11 +121,7 @@ module _ (a b : Book) (pairs : List ℕ) (room : ℕ) (j : Joinable a b pairs ro
   -- a choice keeps two lists of rules
   models-append : (x : ℕ) (cs ds : List Clause) → models x (cs ++ ds) ≡ (models x cs && models x ds)
   models-append x [] ds = refl
-  models-append x (c ∷ cs) ds = ap (λ p. satisfies x c && p) (models-append x cs ds) ∙ and-assoc (satisfies x c) (models x cs) (models x ds)
-    where
-      and-assoc : (p q r : Bool) → (p && (q && r)) ≡ ((p && q) && r)
-      and-assoc true q r = refl
-      and-assoc false q r = refl
+  models-append x (c ∷ cs) ds = ap (λ p. satisfies x c && p) (models-append x cs ds) ∙ sym (and-assoc (satisfies x c) (models x cs) (models x ds))
 
   pub kept : (x y z : ℕ) → Parts a b pairs x y z → models x (jointRules a b pairs) ≡ (models y (a .rules) && models z (b .rules))
   kept x y z p =

@@ -2,7 +2,7 @@
 use mathlib.Core.Path.{_≡_, refl, sym, ap, _∙_}
 use mathlib.Core.Bool.{true}
 use mathlib.Core.List.{List, [], _∷_, _++_, map}
-use mathlib.Core.Logic.{inl, inr, ⊎-elim}
+use mathlib.Core.Logic.{_⊎_, inl, inr, ⊎-elim}
 use Prim.Native.Nat.{ℕ, _≤_}
 use native.Mathlib.Nat.{zero-add}
 use native.Mathlib.Omega.{arith}
@@ -13,12 +13,12 @@ use Rattle.words.proofs.Truth.{both-ways, and-left, and-right, and-both}
 use Rattle.words.proofs.Sets.{within-zero, within-minus, zero-meets}
 use Rattle.steps.specs.Clause.{Clause, vars}
 use Rattle.steps.specs.Meaning.{models, obeys}
-use Rattle.book.specs.Bytes.{bookBytes, varsIn, rulesIn, encode}
+use Rattle.book.specs.Bytes.{bookBytes, rulesIn, encode}
 use Rattle.book.specs.Reading.{Reading.book, read}
 use Rattle.book.specs.Refusals.{above}
 use Rattle.book.specs.Written.{placed}
-use Rattle.book.specs.Conditions.{First, ruleConditions, bookConditions}
-use Rattle.book.proofs.Refusals.{first-split}
+use Rattle.book.specs.Conditions.{bookConditions}
+use Rattle.book.proofs.Refusals.{Numbers, first-number, append-numbers, book-numbers}
 use Rattle.book.proofs.Conditions.{names-above, in-both}
 use Rattle.book.proofs.Orders.{above-within}
 use Rattle.book.proofs.Encoding.{length-encode}
@@ -28,7 +28,7 @@ use Rattle.renaming.proofs.Images.{image-members}
 use Rattle.joint.specs.Pairs.{place}
 use Rattle.joint.specs.Join.{Book, bookIn, jointVars, jointCount, jointRules, jointBytes, join}
 use Rattle.joint.specs.Handed.{numberOf, lengthIn}
-use Rattle.joint.specs.Demands.{IsWritten, NamedRefusal, Writing, Numbering, PlacedAll, Rules, Keeping, Parting, Meeting, noWishes, Building, WithoutPairs, Taking, Demands}
+use Rattle.joint.specs.Demands.{jointConditions, joinConditions, IsWritten, NamedRefusal, Writing, Numbering, PlacedAll, Rules, Keeping, Parting, Meeting, noWishes, Building, WithoutPairs, Taking, Demands}
 use Rattle.joint.proofs.Numbers.{one-numbering}
 use Rattle.joint.proofs.Judging.{left-written, judged, written-passed}
 use Rattle.joint.proofs.Choices.{joint-rules, Joinable, joinable, numbers, rules-count, rules-proper, rules-formed, kept, parted, met}
@@ -36,34 +36,15 @@ use Rattle.joint.proofs.Examples.{examples}
 
 -- ---- the numbers of refusals
 
-rule-number : (n : ℕ) (cs : List Clause) (k : ℕ) → First (ruleConditions n cs) k → (1 ≤ k) × (k ≤ 6)
-rule-number n [] k f = absurd f
-rule-number n (c ∷ cs) k f =
-    ⊎-elim (λ h. (omega (arith, h .1), omega (arith, h .1)))
-    (λ l. ⊎-elim (λ h. (omega (arith, h .1), omega (arith, h .1))) (λ r. rule-number n cs k (r .1)) (l .1))
-    f
-
-book-number : (bytes : List ℕ) (k : ℕ) → First (bookConditions bytes) k → (1 ≤ k) × (k ≤ 6)
-book-number bytes k f =
-    let one : (j : ℕ) → 1 ≤ j → j ≤ 6 → j ≡ k → (1 ≤ k) × (k ≤ 6) = λ j low high e. (omega arith, omega arith) in
-    ⊎-elim (λ h. one 1 (omega arith) (omega arith) (h .1))
-    (λ a.
-    ⊎-elim (λ h. one 2 (omega arith) (omega arith) (h .1))
-    (λ b.
-    ⊎-elim (λ h. one 3 (omega arith) (omega arith) (h .1))
-    (λ c. ⊎-elim (λ h. one 4 (omega arith) (omega arith) (h .1)) (λ d. rule-number (varsIn bytes) (rulesIn bytes) k (d .1)) (c .1))
-    (b .1))
-    (a .1))
-    f
-
 named-refusal : NamedRefusal
 named-refusal first second pairs out k e =
-    ⊎-elim (λ f. inl (book-number first k f))
-    (λ r.
-    ⊎-elim (λ f. inl (book-number second k f))
-    (λ s. inr (⊎-elim (λ h. inl (sym (h .1))) (λ l. ⊎-elim (λ h. inr (sym (h .1))) (λ n. absurd (n .1)) (l .1)) s))
-    (first-split (bookConditions second) _ k r))
-    (first-split (bookConditions first) _ k (judged first second pairs out .refused k .0 e))
+    let P : ℕ → Type 0 = λ j. ((1 ≤ j) × (j ≤ 6)) ⊎ ((j ≡ 22) ⊎ (j ≡ 23)) in
+    let book : (bytes : List ℕ) → Numbers P (bookConditions bytes) = book-numbers P (λ j low high. inl (low, high)) in
+    let own = jointConditions (bookIn first) (bookIn second) pairs (length out) in
+    let both : Numbers P own = (inr (inl refl), (inr (inr refl), tt)) in
+    first-number P (joinConditions first second pairs (length out)) k
+    (append-numbers P (bookConditions first) (bookConditions second ++ own) (book first) (append-numbers P (bookConditions second) own (book second) both))
+    (judged first second pairs out .refused k .0 e)
 
 -- ---- what is written
 

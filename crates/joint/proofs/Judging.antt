@@ -2,7 +2,7 @@
 -- outside its book or stands in an earlier pair too.
 use mathlib.Core.Path.{_≡_, refl, sym, subst, _∙_}
 use mathlib.Core.Bool.{true, false, _||_}
-use mathlib.Core.List.{List}
+use mathlib.Core.List.{List, _++_}
 use mathlib.Core.Logic.{_⊎_, _↔_, inl, inr, ⊎-elim}
 use mathlib.Core.Option.{Option, some, none}
 use Prim.Native.Nat.{ℕ, zero, suc, _-_, _<_}
@@ -20,7 +20,7 @@ use Rattle.book.proofs.Refusals.{decides-append, first-iff, none-iff}
 use Rattle.book.proofs.Conditions.{book-decides}
 use Rattle.joint.specs.Pairs.{pairCount, option, optionsOf, atFault, sideFault}
 use Rattle.joint.specs.Join.{bookIn, jointVars, jointCount, jointBytes, pairsFault, tooLarge, Fitting, jointRows, joinRows, leftBy, join}
-use Rattle.joint.specs.Demands.{Incomplete, Outside, NamesOutside, AlreadyPaired, pairsCondition, sizeCondition, joinConditions, RefusedOrWritten, IsWritten}
+use Rattle.joint.specs.Demands.{Incomplete, Outside, NamesOutside, AlreadyPaired, pairsCondition, sizeCondition, jointConditions, joinConditions, RefusedOrWritten, IsWritten}
 use Rattle.joint.specs.declared.Joined.the-variants.{Written, Refused}
 use Rattle.joint.proofs.Pairs.{options-are, fits, fault-somewhere, distinct}
 use Rattle.joint.proofs.Numbers.{pair-below, pair-first, pair-second, is-pair}
@@ -205,8 +205,9 @@ rows-of : (first second pairs : List ℕ) (room : ℕ) → Decides (joinRows fir
 rows-of first second pairs room =
     let a = bookIn first in
     let b = bookIn second in
-    decides-append (bookRows first) _ (bookConditions first) _ (book-decides first)
-    (decides-append (bookRows second) (jointRows a b pairs room) (bookConditions second) _ (book-decides second)
+    let own = jointConditions a b pairs room in
+    decides-append (bookRows first) (bookRows second ++ jointRows a b pairs room) (bookConditions first) (bookConditions second ++ own) (book-decides first)
+    (decides-append (bookRows second) (jointRows a b pairs room) (bookConditions second) own (book-decides second)
     (refl, twenty-two (a .vars) (b .vars) pairs, (refl, twenty-three (jointVars a b pairs) (jointCount a b) room, tt)))
 
 -- ---- what is left, by the first row

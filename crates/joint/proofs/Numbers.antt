@@ -198,25 +198,31 @@ place-of [] v m = absurd (List·Memᴰ·not-nil m)
 place-of (a ∷ l) v m =
     ⊎-elim (λ e. (0, omega arith, sym e)) (λ t. let i = place-of l v t in (suc (i .0), omega (arith, i .1), i .2)) (List·Memᴰ·cases-cons m)
 
-pub one-numbering : OneNumbering
-one-numbering n m bytes N N′ f g F G k h =
-    ⊎-elim
-    (λ p.
-    let pair = is-pair bytes (p .pair) (p .below) in
-    omega (arith, F .partner (p .pair) _ _ k pair (p .second), G .partner (p .pair) _ _ k pair (p .second)))
-    (λ u. unpaired (u .0))
-    (partner-cases 0 bytes (pairCount bytes) k)
-  where
-    same : F .unpaired ≡ G .unpaired
-    same =
-        same-lists (F .unpaired) (G .unpaired) (F .ascending) (G .ascending) (λ v r. G .listed v .1 (F .listed v .0 r))
-        (λ v r. F .listed v .1 (G .listed v .0 r))
+module _ (n m : ℕ) (bytes : List ℕ) (N N′ : ℕ) (f g : ℕ → ℕ) (F : Numbered n m bytes N f) (G : Numbered n m bytes N′ g) where
+  same-unpaired : F .unpaired ≡ G .unpaired
+  same-unpaired =
+      same-lists (F .unpaired) (G .unpaired) (F .ascending) (G .ascending) (λ v r. G .listed v .1 (F .listed v .0 r))
+      (λ v r. F .listed v .1 (G .listed v .0 r))
 
-    unpaired : NoPartner bytes (pairCount bytes) k → f k ≡ g k
-    unpaired none =
-        let i =
-        place-of (F .unpaired) k (F .listed k .1 (h, λ i a p. none i (pair-below bytes i a (suc k) p) (pair-second bytes i a (suc k) p)))
-        in
-        let there : getD (G .unpaired) (i .0) 0 ≡ k = ap (λ l. getD l (i .0) 0) (sym same) ∙ i .2 in
-        let less : i .0 < length (G .unpaired) = subst (λ l. i .0 < length l) same (i .1) in
-        ap f (sym (i .2)) ∙ F .follow (i .0) (i .1) ∙ sym (G .follow (i .0) less) ∙ ap g there
+  -- an unpaired option stands at one number of the list
+  same-follow : (k : ℕ) → k < m → NoPartner bytes (pairCount bytes) k → f k ≡ g k
+  same-follow k h none =
+      let i =
+      place-of (F .unpaired) k (F .listed k .1 (h, λ i a p. none i (pair-below bytes i a (suc k) p) (pair-second bytes i a (suc k) p)))
+      in
+      let there : getD (G .unpaired) (i .0) 0 ≡ k = ap (λ l. getD l (i .0) 0) (sym same-unpaired) ∙ i .2 in
+      let less : i .0 < length (G .unpaired) = subst (λ l. i .0 < length l) same-unpaired (i .1) in
+      ap f (sym (i .2)) ∙ F .follow (i .0) (i .1) ∙ sym (G .follow (i .0) less) ∙ ap g there
+
+  same-place : (k : ℕ) → k < m → f k ≡ g k
+  same-place k h =
+      ⊎-elim
+      (λ p.
+      let pair = is-pair bytes (p .pair) (p .below) in
+      omega (arith, F .partner (p .pair) _ _ k pair (p .second), G .partner (p .pair) _ _ k pair (p .second)))
+      (λ u. same-follow k h (u .0))
+      (partner-cases 0 bytes (pairCount bytes) k)
+
+pub one-numbering : OneNumbering
+one-numbering n m bytes N N′ f g F G =
+    (omega (arith, F .all, G .all, ap length (same-unpaired n m bytes N N′ f g F G)), same-place n m bytes N N′ f g F G)

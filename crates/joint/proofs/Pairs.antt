@@ -1,7 +1,7 @@
 -- One side of the pairs, pair by pair. An option that is not at fault is one of the n, and no earlier pair has it: so the options of the pairs are as many as the pairs,
 -- and a pair is known by its option.
-use mathlib.Core.Path.{_≡_, refl, sym, subst, _∙_}
-use mathlib.Core.Bool.{Bool, true, false, _||_}
+use mathlib.Core.Path.{_≡_, refl, sym, ap, subst, _∙_}
+use mathlib.Core.Bool.{Bool, true, false, _||_, or-true}
 use mathlib.Core.List.{List}
 use mathlib.Core.Logic.{⊎-elim}
 use Prim.Native.Nat.{ℕ, zero, suc, _-_, _^_, _≤_, _<_}
@@ -57,15 +57,10 @@ module _ (side : ℕ) (bytes : List ℕ) where
     unfolding sideFault
     fault-stays zero i h e = absurd (omega arith)
     fault-stays (suc m) i h e =
-        let here = atFault n (optionsOf side bytes m) (option side bytes m) in
         below-suc (λ j. atFault n (optionsOf side bytes j) (option side bytes j) ≡ true → sideFault n side bytes (suc m) ≡ true) i m h
         (λ less e′. rw (fault-stays m i less e′))
-        (λ e′. or-last (sideFault n side bytes m) here e′)
+        (λ e′. ap (λ p. sideFault n side bytes m || p) e′ ∙ or-true (sideFault n side bytes m))
         e
-      where
-        or-last : (p q : Bool) → q ≡ true → (p || q) ≡ true
-        or-last true q e = refl
-        or-last false q e = e
 
     -- and a fault is that of a pair
     pub fault-somewhere :

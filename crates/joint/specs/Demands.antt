@@ -13,7 +13,7 @@ use Rattle.steps.specs.Clause.{Clause}
 use Rattle.steps.specs.Run.{Assumptions}
 use Rattle.steps.specs.Meaning.{models, Buildable}
 use Rattle.steps.specs.Marked.{clause}
-use Rattle.book.specs.Bytes.{bookBytes, varsIn, encode}
+use Rattle.book.specs.Bytes.{bookBytes, encode}
 use Rattle.book.specs.Reading.{Reading.book, read}
 use Rattle.book.specs.Conditions.{Condition, condition, First, NoRow, NamesAbove, InBoth, bookConditions}
 use Rattle.renaming.specs.Demands.{Named}
@@ -66,15 +66,13 @@ pairsCondition n m pairs = condition 22 (Incomplete pairs ⊎ (NamesOutside n m 
 abbrev pub sizeCondition : ℕ → ℕ → ℕ → Condition
 sizeCondition n m room = condition 23 ((64 < n) ⊎ ((1024 < m) ⊎ (room < 3 + 16 * m)))
 
--- the table of refusals in docs/FORMAT.md: 1 to 6 of the first book, 1 to 6 of the second, 22, and 23 of the first's options and those of the second that are in no
--- pair, and of the rules of both
+-- of two books: 22, and 23 of the first's options and those of the second that are in no pair, and of the rules of both
+abbrev pub jointConditions : Book → Book → List ℕ → ℕ → List Condition
+jointConditions a b pairs room = pairsCondition (a .vars) (b .vars) pairs ∷ sizeCondition (jointVars a b pairs) (jointCount a b) room ∷ []
+
+-- the table of refusals in docs/FORMAT.md: 1 to 6 of the first book, 1 to 6 of the second, 22, 23
 abbrev pub joinConditions : List ℕ → List ℕ → List ℕ → ℕ → List Condition
-joinConditions first second pairs room =
-    bookConditions first ++
-    (bookConditions second ++
-    (pairsCondition (varsIn first) (varsIn second) pairs ∷
-    sizeCondition (jointVars (bookIn first) (bookIn second) pairs) (jointCount (bookIn first) (bookIn second)) room ∷
-    []))
+joinConditions first second pairs room = bookConditions first ++ (bookConditions second ++ jointConditions (bookIn first) (bookIn second) pairs room)
 
 -- refused by the first condition that holds, and then the buffer is as it was; written where none holds
 pub record RefusedOrWritten (first second pairs out : List ℕ) : Type 0 where
@@ -127,10 +125,11 @@ pub record Numbered (n m : ℕ) (pairs : List ℕ) (N : ℕ) (f : ℕ → ℕ) :
 abbrev pub Numbering : Type 0
 Numbering = WhereWritten (λ a b pairs. Numbered (a .vars) (b .vars) pairs (jointVars a b pairs) (place (a .vars) pairs))
 
--- and no other places are so
+-- and no other places are so, nor another number of options
 abbrev pub OneNumbering : Type 0
 OneNumbering =
-    (n m : ℕ) (pairs : List ℕ) (N N′ : ℕ) (f g : ℕ → ℕ) → Numbered n m pairs N f → Numbered n m pairs N′ g → (k : ℕ) → k < m → f k ≡ g k
+    (n m : ℕ) (pairs : List ℕ) (N N′ : ℕ) (f g : ℕ → ℕ) → Numbered n m pairs N f → Numbered n m pairs N′ g →
+    (N ≡ N′) × ((k : ℕ) → k < m → f k ≡ g k)
 
 -- ---- the rules
 

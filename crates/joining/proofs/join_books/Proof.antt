@@ -10,7 +10,7 @@ use Rattle.joint.specs.Pairs.{paired as pairedIn}
 use Rattle.joint.specs.Join.{pairsFault}
 use Rattle.joining.specs.Promises.{judgedAs}
 use Rattle.joining.specs.declared.pairs.Paired.the-variants.{Options}
-use Rattle.joining.proofs.Joined.{first-few, second-few, books-fault, paired-are, first-low, count-few, books-large, fit, appendable, books-written}
+use Rattle.joining.proofs.Joined.{small, books-fault, paired-are, first-low, count-few, books-large, fit, appendable, books-written}
 use Rattle.joining.proofs.join_books.Statement.{statement}
 use Rattle.joining.proofs.join_books.Tie as tie
 
@@ -29,14 +29,7 @@ returns c =
     books-fault _ _ _ _ _ (start .pre .0) (start .pre .1) _ _ (sym (c .enum-told .given .1) ∙ c .before .before .judge .ensures)
 
 sizes-requires : tie.Need-sizes-requires
-sizes-requires c κs =
-    let start = c .before .before .before .before .before .before .before .before in
-    let held = start .pre in (
-      held .0 .formed .vars-few,
-      first-few (start .args .a) (start .args .b) _ _ (start .args .pairs .now) (held .0) (held .1),
-      held .1 .formed .vars-few,
-      second-few (start .args .a) (start .args .b) _ _ (start .args .pairs .now) (held .0) (held .1),
-    )
+sizes-requires c κs = let start = c .before .before .before .before .before .before .before .before in (small _ _ (start .pre .0), small _ _ (start .pre .1))
 
 -- the sizes are worked out
 module _ (c : tie.After-sizes) where
@@ -53,13 +46,13 @@ module _ (c : tie.After-sizes) where
 too-large-requires : tie.Need-too-large-requires
 too-large-requires c κs =
     let s = start c in
-    count-few _ _ _ _ (s .args .pairs .now) (s .pre .0) (s .pre .1) (options c) (passed c) (c .sizes .result) (c .sizes .ensures .0) (c .sizes .ensures .1)
+    count-few _ _ _ _ (s .args .pairs .now) (s .pre .0) (s .pre .1) (options c) (passed c) (c .sizes .result) (c .sizes .ensures)
 
 returns-2 : tie.Need-returns-2
 returns-2 c =
     let z = c .before .before in
     let s = start z in
-    books-large _ _ _ _ _ (s .pre .0) (s .pre .1) (options z) (passed z) (z .sizes .result) (z .sizes .ensures .0) (z .sizes .ensures .1) _ _ (c .before .too-large .ensures) (c .if1 .taken)
+    books-large _ _ _ _ _ (s .pre .0) (s .pre .1) (options z) (passed z) (z .sizes .result) (z .sizes .ensures) _ _ (c .before .too-large .ensures) (c .if1 .taken)
 
 places-requires : tie.Need-places-requires
 places-requires c κs =
@@ -76,14 +69,14 @@ fitting : (c : tie.Else1) → Fitting (c .before .before .sizes .result .vars) (
 fitting c =
     let z = c .before .before in
     let s = start z in
-    fit _ _ _ _ (s .args .pairs .now) (s .pre .0) (s .pre .1) (options z) (passed z) (z .sizes .result) (z .sizes .ensures .0) (z .sizes .ensures .1) _ _ (c .before .too-large .ensures) (c .if1 .left)
+    fit _ _ _ _ (s .args .pairs .now) (s .pre .0) (s .pre .1) (options z) (passed z) (z .sizes .result) (z .sizes .ensures) _ _ (c .before .too-large .ensures) (c .if1 .left)
 
 append-requires : tie.Need-append-requires
 append-requires c κs =
     let e = c .before .before .before in
     let z = e .before .before in
     let s = start z in
-    appendable _ _ _ _ _ (s .pre .0) (s .pre .1) (options z) (passed z) (z .sizes .result) (z .sizes .ensures .0) (z .sizes .ensures .1) _ _ (e .before .too-large .ensures) (e .if1 .left) _
+    appendable _ _ _ _ _ (s .pre .0) (s .pre .1) (options z) (passed z) (z .sizes .result) (z .sizes .ensures) _ _ (e .before .too-large .ensures) (e .if1 .left) _
     (c .before .before .places .ensures)
 
 write-requires : tie.Need-write-requires
@@ -100,7 +93,7 @@ returns-3 c =
     let e = c .before .before .before .before .before .before .before .before .before .before .before in
     let z = e .before .before in
     let s = start z in
-    books-written _ _ _ _ _ (s .pre .0) (s .pre .1) (options z) (passed z) (z .sizes .result) (z .sizes .ensures .0) (z .sizes .ensures .1) _ _ (e .before .too-large .ensures) (e .if1 .left)
+    books-written _ _ _ _ _ (s .pre .0) (s .pre .1) (options z) (passed z) (z .sizes .result) (z .sizes .ensures) _ _ (e .before .too-large .ensures) (e .if1 .left)
     (c .before .before .before .before .before .before .before .before .before .before .places .result)
     (c .before .before .before .before .before .before .before .before .before .before .places .ensures)
     _
@@ -109,8 +102,7 @@ returns-3 c =
     _
     refl
     (c .before .before .before .before .before .before .before .append .ensures)
-    (c .before .before .write .ensures .0)
-    (c .before .before .write .ensures .1)
+    (c .before .before .write .ensures)
 
 pub join-books-spec : {M : Type 1} → statement M
 join-books-spec =

@@ -22,7 +22,7 @@ add-t7 c =
     let counted = c .before in
     omega (
       arith,
-      counted .before .before .before .pre .0,
+      counted .before .before .before .pre .0 .vars,
       few-before _ _ _ _ _ (counted .before .before .first-of .ensures) (counted .before .minus .ensures) (counted .count-of .ensures),
     )
 
@@ -31,11 +31,14 @@ add-t8 c = search needs
 
 returns : tie.Need-returns
 returns c =
-    let counted = c .before .before .before in (
-      ap (λ k. counted .before .before .before .args .a .vars + k)
-          (unpaired-count _ _ _ _ _ (counted .before .before .before .pre .2) (counted .before .before .first-of .ensures) (counted .before .minus .ensures) (counted .count-of .ensures)),
-      refl,
-    )
+    let counted = c .before .before .before in
+    let start = counted .before .before .before in
+    record {
+      vars =
+          ap (λ k. start .args .a .vars + k)
+          (unpaired-count _ _ _ _ _ (start .pre .1 .vars) (counted .before .before .first-of .ensures) (counted .before .minus .ensures) (counted .count-of .ensures));
+      clauses = refl;
+    }
 
 pub sizes-spec : {M : Type 1} → statement M
 sizes-spec =

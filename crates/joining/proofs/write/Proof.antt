@@ -1,7 +1,5 @@
 -- `joining::write` meets its contract: a book that fits is written at the beginning. Assumes nothing.
-use mathlib.Core.Path.{refl}
 use borrow.Author.Needs.{needs}
-use Rattle.rows.proofs.Tables.{clauses-length}
 use Rattle.joining.proofs.Joined.{written-whole}
 use Rattle.joining.proofs.write.Statement.{statement}
 use Rattle.joining.proofs.write.Tie as tie
@@ -21,7 +19,7 @@ same-length c = search needs
 returns : tie.Need-returns
 returns c =
     let start = c .before .before .before .before .before .before .before in
-    (refl, written-whole _ _ _ _ _ (clauses-length _ _) (start .pre .0 .bytes) (c .before .before .before .write-book .ensures .1))
+    written-whole _ _ _ _ (start .pre .0 .bytes) (c .before .before .before .write-book .ensures .1)
 
 pub write-spec : {M : Type 1} → statement M
 write-spec = tie.close (tie.spec write-book-requires mul-t7 add-t8 same-length returns)
