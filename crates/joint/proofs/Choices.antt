@@ -26,7 +26,7 @@ use Rattle.book.proofs.Refusals.{none-here, none-later, none-among, first-after
 use Rattle.book.proofs.Readings.{book-by}
 use Rattle.book.proofs.Accepted.{bytes-book}
 use Rattle.renaming.specs.Renaming.{image, renamed, preimage}
-use Rattle.renaming.proofs.Images.{image-named, image-has, image-apart, image-within, preimage-below, way-back}
+use Rattle.renaming.proofs.Images.{in-first, first-below, image-named, image-has, image-apart, image-within, preimage-below, way-back}
 use Rattle.renaming.proofs.Keeping.{keeping-all, same-kept-all, stays-proper}
 use Rattle.joint.specs.Pairs.{pairCount, option, place}
 use Rattle.joint.specs.Join.{Book, bookIn, Fitting, jointVars, jointCount, jointRules, jointRows, joinRows}
@@ -98,7 +98,7 @@ module _ (a b : Book) (pairs : List ℕ) (room : ℕ) (j : Joinable a b pairs ro
   wider : (c : Clause) → Proper n c → Proper N c
   wider c p =
       record {
-        named = within-trans (vars c) (firstOf n) (firstOf N) (p .named) (λ k h. has-firstOf N k ∙ lt-ltb k N (omega (arith, ltb-true k n (sym (has-firstOf n k) ∙ h))));
+        named = within-trans (vars c) (firstOf n) (firstOf N) (p .named) (λ k h. in-first N k (omega (arith, first-below n k h)));
         consistent = p .consistent;
       }
 
@@ -160,7 +160,7 @@ module _ (a b : Book) (pairs : List ℕ) (room : ℕ) (j : Joinable a b pairs ro
           record {
             choice = h;
             first-choice = within-lt n (bitAnd x (firstOf n)) (and-within-r x (firstOf n));
-            second-choice = within-lt m (preimage f m x) (λ k e. has-firstOf m k ∙ lt-ltb k m (preimage-below f m x k e .0));
+            second-choice = within-lt m (preimage f m x) (λ k e. in-first m k (preimage-below f m x k e .0));
             of-first = cut-below n x;
             of-second = way-back f m x;
           }
@@ -173,7 +173,7 @@ module _ (a b : Book) (pairs : List ℕ) (room : ℕ) (j : Joinable a b pairs ro
 
     -- no option above its book's is chosen
     chosen-below : (w x k : ℕ) → x < 2 ^ w → has x k ≡ true → k < w
-    chosen-below w x k h e = ltb-true k w (sym (has-firstOf w k) ∙ lt-within w x h k e)
+    chosen-below w x k h e = first-below w k (lt-within w x h k e)
 
     -- where the places meet the first book's options, the choices agree
     placed-agree : (k : ℕ) → k < m → f k < n → has y (f k) ≡ has z k
@@ -215,7 +215,7 @@ module _ (a b : Book) (pairs : List ℕ) (room : ℕ) (j : Joinable a b pairs ro
           choice =
               within-lt N both
               (or-within y (image f m z) (firstOf N)
-              (λ k e. has-firstOf N k ∙ lt-ltb k N (omega (arith, chosen-below n y k hy e)))
+              (λ k e. in-first N k (omega (arith, chosen-below n y k hy e)))
               (image-within f m N z (places-into n m pairs (j .sides .first) (j .sides .second))));
           first-choice = hy;
           second-choice = hz;

@@ -10,11 +10,11 @@ use native.Mathlib.Omega.{arith}
 use borrow.Author.Tests.{ltb-true, ltb-false}
 use lib.Dec.{ltb}
 use lib.ListN.{length}
-use Rattle.book.specs.Written.{placed}
 use Rattle.words.specs.Words.{has, odd}
 use Rattle.words.proofs.Truth.{both-ways, clash, confirmed, or-neither, or-either}
 use Rattle.words.proofs.Membership.{halves-at, odd-of}
 use Rattle.book.specs.Refusals.{firstRow, bookRows}
+use Rattle.book.specs.Written.{placed}
 use Rattle.book.specs.Conditions.{condition, First, Decides, bookConditions}
 use Rattle.book.proofs.Refusals.{decides-append, first-iff, none-iff}
 use Rattle.book.proofs.Conditions.{book-decides}
@@ -89,35 +89,25 @@ module _ (n m : ℕ) (pairs : List ℕ) where
       (λ o. record { pair = o .pair; a = _; b = _; is-pair = is-pair pairs (o .pair) (o .below); outside = inl (o .outside) })
       (λ o. record { pair = o .pair; a = _; b = _; is-pair = is-pair pairs (o .pair) (o .below); outside = inr (o .outside) })
 
+  -- pairs i and j have the same option of one of the books
+  again : (i j : ℕ) → i < j → j < pairCount pairs → (option 0 pairs i ≡ option 0 pairs j) ⊎ (option 1 pairs i ≡ option 1 pairs j) → AlreadyPaired pairs
+  again i j before below same =
+      record {
+        earlier = i;
+        a = _;
+        b = _;
+        pair = j;
+        a′ = _;
+        b′ = _;
+        before = before;
+        is-earlier = is-pair pairs i (omega arith);
+        is-pair = is-pair pairs j below;
+        same = same;
+      }
+
   twice : TwiceAt 0 pairs ⊎ TwiceAt 1 pairs → AlreadyPaired pairs
   twice =
-      ⊎-elim
-      (λ t.
-      record {
-        earlier = t .earlier;
-        a = _;
-        b = _;
-        pair = t .pair;
-        a′ = _;
-        b′ = _;
-        before = t .before;
-        is-earlier = is-pair pairs (t .earlier) (omega (arith, t .before, t .below));
-        is-pair = is-pair pairs (t .pair) (t .below);
-        same = inl (t .same);
-      })
-      (λ t.
-      record {
-        earlier = t .earlier;
-        a = _;
-        b = _;
-        pair = t .pair;
-        a′ = _;
-        b′ = _;
-        before = t .before;
-        is-earlier = is-pair pairs (t .earlier) (omega (arith, t .before, t .below));
-        is-pair = is-pair pairs (t .pair) (t .below);
-        same = inr (t .same);
-      })
+      ⊎-elim (λ t. again (t .earlier) (t .pair) (t .before) (t .below) (inl (t .same))) (λ t. again (t .earlier) (t .pair) (t .before) (t .below) (inr (t .same)))
 
   -- a byte left over, or a fault on either side
   three-faults : pairsFault n m pairs ≡ (odd (length pairs) || (sideFault n 0 pairs (pairCount pairs) || sideFault m 1 pairs (pairCount pairs)))

@@ -6,16 +6,16 @@ use mathlib.Core.List.{List}
 use mathlib.Core.Logic.{⊎-elim}
 use Prim.Native.Nat.{ℕ, zero, suc, _-_, _^_, _≤_, _<_}
 use native.Mathlib.Omega.{arith}
-use borrow.Author.Tests.{ltb-true, ltb-false, lt-ltb}
+use borrow.Author.Tests.{ltb-true, ltb-false}
 use lib.Count.{ones}
 use lib.Dec.{ltb}
 use Rattle.words.specs.Words.{has, firstOf, Within}
 use Rattle.words.proofs.Truth.{both-ways, or-neither, or-either}
-use Rattle.words.proofs.Membership.{has-zero, has-bit, has-bit-eq, has-firstOf}
+use Rattle.words.proofs.Membership.{has-zero, has-bit, has-bit-eq}
 use Rattle.words.proofs.Sets.{in-or, or-within-l, or-within-r}
 use Rattle.words.proofs.Unions.{meets-bit}
 use Rattle.words.proofs.Count.{ones-zero, ones-bit, ones-disjoint}
-use Rattle.renaming.proofs.Images.{below-suc}
+use Rattle.renaming.proofs.Images.{below-suc, in-first}
 use Rattle.joint.specs.Pairs.{option, optionsOf, atFault, sideFault}
 
 -- an option that is not at fault
@@ -110,4 +110,4 @@ module _ (side : ℕ) (bytes : List ℕ) where
     options-within m e k h =
         let i = options-are m k h in
         let f = fits m e (i .0) (i .1) in
-        has-firstOf n k ∙ lt-ltb k n (omega (arith, i .2, f .low, f .high))
+        in-first n k (omega (arith, i .2, f .low, f .high))

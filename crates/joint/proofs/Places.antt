@@ -6,18 +6,18 @@ use mathlib.Core.List.{List}
 use mathlib.Core.Logic.{_⊎_, inl, inr, ⊎-elim}
 use Prim.Native.Nat.{ℕ, zero, suc, _+_, _-_, _^_, _≤_, _<_}
 use native.Mathlib.Omega.{arith}
-use borrow.Author.Tests.{ltb-true, ltb-false, lt-ltb, eqb-true, eqb-false}
+use borrow.Author.Tests.{ltb-true, ltb-false, eqb-true, eqb-false}
 use lib.Bits.{bitOr}
 use lib.Count.{ones}
 use lib.Dec.{ltb, eqb}
 use Rattle.words.specs.Words.{has, minus, firstOf}
 use Rattle.words.proofs.Truth.{both-ways, refuted}
-use Rattle.words.proofs.Membership.{has-bit, has-firstOf}
+use Rattle.words.proofs.Membership.{has-bit}
 use Rattle.words.proofs.Sets.{within-antisym, in-minus, minus-within, minus-out, or-within, or-within-l, or-within-r, with-rest, meets-false-intro, bit-within}
 use Rattle.words.proofs.Unions.{meets-bit}
 use Rattle.words.proofs.Count.{ones-bit, ones-disjoint, ones-within, ones-firstOf}
 use Rattle.renaming.specs.Renaming.{Apart, Into}
-use Rattle.renaming.proofs.Images.{below-suc}
+use Rattle.renaming.proofs.Images.{below-suc, in-first, first-below}
 use Rattle.joint.specs.Pairs.{pairCount, option, sideFault, partnerOr, paired, unpairedBelow, place}
 use Rattle.joint.proofs.Pairs.{options-are, are-options, fits, known-by, options-count, options-within}
 
@@ -55,13 +55,6 @@ partner-cases d bytes (suc m) k = go (partner-cases d bytes m k) (eqb (option 1 
         inr (λ i h same. below-suc (λ j. option 1 bytes j ≡ suc k → ⊥) i m h (λ less. n .0 i less) (eqb-false _ _ e) same, later e ∙ n .1)
 
 -- ---- how many are unpaired
-
--- a member of the first n
-in-first : (n j : ℕ) → j < n → has (firstOf n) j ≡ true
-in-first n j h = has-firstOf n j ∙ lt-ltb j n h
-
-first-below : (n j : ℕ) → has (firstOf n) j ≡ true → j < n
-first-below n j h = ltb-true j n (sym (has-firstOf n j) ∙ h)
 
 module _ (bytes : List ℕ) where
   abbrev q : ℕ

@@ -34,6 +34,13 @@ below-suc P k n h less same = go (ltb k n) refl
     go true e = less (ltb-true k n e)
     go false e = let here : n ≡ k = omega (arith, ltb-false k n e) in subst P here same
 
+-- the first n variables are those below n
+pub in-first : (n k : ℕ) → k < n → has (firstOf n) k ≡ true
+in-first n k h = has-firstOf n k ∙ lt-ltb k n h
+
+pub first-below : (n k : ℕ) → has (firstOf n) k ≡ true → k < n
+first-below n k h = ltb-true k n (sym (has-firstOf n k) ∙ h)
+
 -- ---- members of an image
 
 -- a member is the number of one
@@ -82,7 +89,7 @@ image-apart f n w k apart h =
 pub image-within : (f : ℕ → ℕ) (n m w : ℕ) → Into f n m → Within (image f n w) (firstOf m)
 image-within f n m w into j h =
     let i = image-named f n w j h in
-    has-firstOf m j ∙ lt-ltb j m (subst (λ a. a < m) (i .number) (into (i .var) (i .below)))
+    in-first m j (subst (λ a. a < m) (i .number) (into (i .var) (i .below)))
 
 -- images under maps that agree on the members, in words of the first n variables
 pub image-same : (f g : ℕ → ℕ) (n m w : ℕ) → n ≤ m → Within w (firstOf n) → ((k : ℕ) → k < n → f k ≡ g k) → image f m w ≡ image g n w
@@ -92,7 +99,7 @@ image-same f g n m w le within same =
     iff (has (image f m w) j) (has (image g n w) j)
     (λ h.
     let i = image-named f m w j h in
-    let less = ltb-true (i .var) n (sym (has-firstOf n (i .var)) ∙ within (i .var) (i .member)) in
+    let less = first-below n (i .var) (within (i .var) (i .member)) in
     subst (λ a. has (image g n w) a ≡ true) (sym (same (i .var) less) ∙ i .number) (image-has g n w (i .var) less (i .member)))
     (λ h.
     let i = image-named g n w j h in

@@ -4,10 +4,8 @@ use mathlib.Core.Path.{_≡_, refl, sym, ap, ap₂, subst, _∙_}
 use mathlib.Core.Bool.{Bool, true, false, _&&_}
 use mathlib.Core.List.{List, [], _∷_, map, List·Memᴰ·head, List·Memᴰ·tail}
 use Prim.Native.Nat.{ℕ, _≤_, _<_}
-use borrow.Author.Tests.{ltb-true}
 use Rattle.words.specs.Words.{has, firstOf, Within}
 use Rattle.words.proofs.Truth.{both-ways, refuted, iff}
-use Rattle.words.proofs.Membership.{has-firstOf}
 use Rattle.words.proofs.Sets.{within-trans, or-within-l, or-within-r, or-within, meets-false, meets-false-intro}
 use Rattle.steps.specs.Clause.{Clause, literals, vars}
 use Rattle.steps.specs.Meaning.{satisfies, models}
@@ -15,7 +13,7 @@ use Rattle.steps.specs.Shape.{Proper, AllProper}
 use Rattle.steps.proofs.Models.{Satisfied, Satisfied.at, satisfies-true, true-satisfies}
 use Rattle.renaming.specs.Renaming.{image, renamed, Pulled}
 use Rattle.renaming.specs.Demands.{Keeping, KeepingAll, StaysProper}
-use Rattle.renaming.proofs.Images.{image-named, image-has, image-within, image-same}
+use Rattle.renaming.proofs.Images.{first-below, image-named, image-has, image-within, image-same}
 
 -- the literals of one sign
 pub literals-renamed : (b : Bool) (f : ℕ → ℕ) (n : ℕ) (c : Clause) → literals b (renamed f n c) ≡ image f n (literals b c)
@@ -30,7 +28,7 @@ literal-within true n c p = within-trans _ _ _ (or-within-l (c .pos) (c .neg)) (
 literal-within false n c p = within-trans _ _ _ (or-within-r (c .pos) (c .neg)) (p .named)
 
 pub literal-below : (b : Bool) (n : ℕ) (c : Clause) → Proper n c → (k : ℕ) → has (literals b c) k ≡ true → k < n
-literal-below b n c p k h = ltb-true k n (sym (has-firstOf n k) ∙ literal-within b n c p k h)
+literal-below b n c p k h = first-below n k (literal-within b n c p k h)
 
 module _ (f : ℕ → ℕ) (n x z : ℕ) (c : Clause) (p : Proper n c) (pulled : Pulled f n x z) where
   back : Satisfied x (renamed f n c) → Satisfied z c
