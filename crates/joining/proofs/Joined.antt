@@ -33,7 +33,7 @@ use Rattle.joint.proofs.Pairs.{fits}
 use Rattle.joint.proofs.Places.{below-all, places-into}
 use Rattle.joint.proofs.Judging.{Faultless, faultless, fitting}
 use Rattle.joint.proofs.Choices.{joint-rules}
-use Rattle.joining.specs.Promises.{bookOf, Held, Small, Sizes, Writes, JoinsTo, JoinsBooks, judgedAs, placeIn, Appendable}
+use Rattle.joining.specs.Promises.{bookOf, Held, Small, Sizes, Writes, JoinsTo, JoinsBooks, judgedAs, NoneZero, placeIn, Appendable}
 use Rattle.joining.specs.declared.pairs.Paired.the-variants.{Options, Fault}
 use Rattle.joining.proofs.Judged.{judged-fault, judged-options}
 
@@ -89,7 +89,7 @@ module _ (a b : declared.Book) (t u pairs : List ℕ) (ha : Held a t) (hb : Held
     sides = faultless (a .vars) (b .vars) pairs no-fault
 
     -- no option of the first side is 0
-    pub first-low : (i : ℕ) → i < pairCount pairs → 0 < option 0 pairs i
+    pub first-low : NoneZero pairs
     first-low i h = fits 0 pairs (a .vars) (pairCount pairs) (sides .first) i h .low
 
     module _ (s : declared.Book) (sizes : Sizes a b p s) where

@@ -6,7 +6,7 @@ use Prim.Native.Nat.{ℕ, zero, suc, _+_, _-_, _%_, _^_, min, _≤_, _<_}
 use native.Mathlib.Nat.{le-of-lt, min-eq-left, min-le-right}
 use native.Mathlib.Numerals.{add-one}
 use native.Mathlib.Omega.{arith}
-use borrow.Author.Tests.{lt-ltb, le-ltb, eq-eqb, ne-eqb}
+use borrow.Author.Tests.{lt-ltb, le-ltb}
 use lib.Bits.{bitOr}
 use lib.Count.{ones}
 use lib.ListN.{length, getD, set}
@@ -19,6 +19,7 @@ use Rattle.joint.specs.Pairs.{pairCount, option, optionsOf, atFault, sideFault,
 use Rattle.joint.specs.Join.{pairsFault}
 use Rattle.renaming.proofs.Images.{below-suc}
 use Rattle.joint.proofs.Pairs.{fit, fault-stays}
+use Rattle.joint.proofs.Places.{partner-last, partner-before}
 use Rattle.joining.specs.Promises.{judgedAs}
 use Rattle.joining.specs.declared.pairs.Paired.{Paired}
 use Rattle.joining.specs.declared.pairs.Paired.the-variants.{Options, Fault}
@@ -106,14 +107,15 @@ module _ (d : ℕ) (bytes : List ℕ) (k : ℕ) where
   unfolding partnerOr
   partner-none = refl
 
+  -- one pair more
+  next : (i at : ℕ) → at ≡ partnerOr d bytes (suc i) k → at ≡ partnerOr d bytes (i + 1) k
+  next i at e = e ∙ ap (λ l. partnerOr d bytes l k) (sym (add-one i))
+
   pub partner-here : (i p s : ℕ) → s ≡ option 1 bytes i → p ≡ option 0 bytes i → s ≡ k + 1 → p - 1 ≡ partnerOr d bytes (i + 1) k
-  unfolding partnerOr
-  partner-here i p s es ep e = rw (add-one, eq-eqb (option 1 bytes i) (suc k) (sym es ∙ e ∙ add-one k), partnerOr) (ap (λ j. j - 1) ep)
+  partner-here i p s es ep e = next i (p - 1) (ap (λ j. j - 1) ep ∙ sym (partner-last d bytes i k (sym es ∙ e ∙ add-one k)))
 
   pub partner-later : (i at s : ℕ) → s ≡ option 1 bytes i → (s ≡ k + 1 → ⊥) → at ≡ partnerOr d bytes i k → at ≡ partnerOr d bytes (i + 1) k
-  unfolding partnerOr
-  partner-later i at s es other e =
-      rw (add-one, ne-eqb (option 1 bytes i) (suc k) (λ h. other (es ∙ h ∙ sym (add-one k))), partnerOr) e
+  partner-later i at s es other e = next i at (e ∙ sym (partner-before d bytes i k (λ h. other (es ∙ h ∙ sym (add-one k)))))
 
   pub partner-end : (i j at : ℕ) → i ≡ j → at ≡ partnerOr d bytes i k → at ≡ partnerOr d bytes j k
   partner-end i j at same e = e ∙ ap (λ l. partnerOr d bytes l k) same

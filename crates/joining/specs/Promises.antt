@@ -14,6 +14,7 @@ use Rattle.book.specs.Written.{placed}
 use Rattle.book.specs.Refusals.{firstRow, bookRows}
 use Rattle.book.specs.Reading.{WellFormed}
 use Rattle.book.specs.declared.Book as declared
+use Rattle.joint.specs.Pairs.{pairCount, option}
 use Rattle.joint.specs.Join.{Book, bookIn, jointRows, leftBy}
 use Rattle.joint.specs.declared.Joined.{Joined}
 use Rattle.joint.specs.declared.Joined.the-variants.{Written}
@@ -62,6 +63,10 @@ pub record JoinsBooks (a b : Book) (pairs before : List ℕ) (r : Joined) (after
 unfoldable pub judgedAs : Bool → ℕ → Paired
 judgedAs true options = Fault
 judgedAs false options = Options options
+
+-- no pair has option 0 of the first book
+abbrev pub NoneZero : List ℕ → Type 0
+NoneZero pairs = (i : ℕ) → i < pairCount pairs → 0 < option 0 pairs i
 
 -- ---- places
 

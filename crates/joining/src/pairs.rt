@@ -1,10 +1,10 @@
 // The pairs: judging them, and the places that they give to the second book's options.
 ghost use mathlib.Core.Path.{_≡_};
-ghost use Prim.Native.Nat.{ℕ, _+_, _*_, _≤_, _<_};
+ghost use Prim.Native.Nat.{ℕ, _≤_, _<_};
 ghost use lib.ListN.{getD};
 ghost use Rattle.joint.specs.Pairs.{pairCount, option, optionsOf, atFault, sideFault, partnerOr, paired as pairedIn, place};
 ghost use Rattle.joint.specs.Join.{pairsFault};
-ghost use Rattle.joining.specs.Promises.{judgedAs};
+ghost use Rattle.joining.specs.Promises.{judgedAs, NoneZero};
 
 // The options of one side of the pairs, or that one of them, or a pair, is at fault.
 pub enum Paired {
@@ -69,7 +69,7 @@ pub fn judge(n: u32, m: u32, pairs: &[u8]) -> Paired
 
 // The place of the first book's option that is paired with the second's option k + 1, and d where none is.
 fn partner_or(d: u32, pairs: &[u8], k: u32) -> u32
-    requires { ⌜ (k < 64) × ((i : ℕ) → i < pairCount (now pairs) → 0 < option 0 (now pairs) i) ⌝ }
+    requires { ⌜ (k < 64) × NoneZero (now pairs) ⌝ }
     ensures { λ r. ⌜ r ≡ partnerOr d (now (pairs .entry)) (pairCount (now (pairs .entry))) k ⌝ }
 {
     let count = pairs.len() / 2;
@@ -86,7 +86,7 @@ fn partner_or(d: u32, pairs: &[u8], k: u32) -> u32
 
 // The places of the second book's m options, whose paired ones are `paired`, after a first book of n options.
 pub fn places(n: u32, m: u32, pairs: &[u8], paired: u64) -> [u32; 64]
-    requires { ⌜ (n ≤ 64) × (m ≤ 64) × (paired ≡ pairedIn (now pairs)) × ((i : ℕ) → i < pairCount (now pairs) → 0 < option 0 (now pairs) i) ⌝ }
+    requires { ⌜ (n ≤ 64) × (m ≤ 64) × (paired ≡ pairedIn (now pairs)) × NoneZero (now pairs) ⌝ }
     ensures { λ r. ⌜ ((k : ℕ) → k < m → getD r k 0 ≡ place n (now (pairs .entry)) k) ⌝ }
 {
     let mut places = [0u32; 64];

@@ -1,7 +1,7 @@
 // Clauses with their options in other places.
 ghost use mathlib.Core.Path.{_≡_};
 ghost use mathlib.Core.List.{_++_, map};
-ghost use Prim.Native.Nat.{_+_, _<_};
+ghost use Prim.Native.Nat.{_+_};
 ghost use Rattle.rows.specs.Rows.{clauses as Clauses};
 ghost use Rattle.rows.specs.Values.{clauseOf};
 ghost use Rattle.renaming.specs.Renaming.{image, renamed as Renamed};

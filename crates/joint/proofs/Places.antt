@@ -6,7 +6,7 @@ use mathlib.Core.List.{List}
 use mathlib.Core.Logic.{_⊎_, inl, inr, ⊎-elim}
 use Prim.Native.Nat.{ℕ, zero, suc, _+_, _-_, _^_, _≤_, _<_}
 use native.Mathlib.Omega.{arith}
-use borrow.Author.Tests.{ltb-true, ltb-false, eqb-true, eqb-false}
+use borrow.Author.Tests.{ltb-true, ltb-false, eqb-true, eqb-false, eq-eqb, ne-eqb}
 use lib.Bits.{bitOr}
 use lib.Count.{ones}
 use lib.Dec.{ltb, eqb}
@@ -34,25 +34,43 @@ pub record Partner (bytes : List ℕ) (m k p : ℕ) : Type 0 where
 abbrev pub NoPartner : List ℕ → ℕ → ℕ → Type 0
 NoPartner bytes m k = (i : ℕ) → i < m → option 1 bytes i ≡ suc k → ⊥
 
-pub partner-cases : (d : ℕ) (bytes : List ℕ) (m k : ℕ) → Partner bytes m k (partnerOr d bytes m k) ⊎ (NoPartner bytes m k × (partnerOr d bytes m k ≡ d))
+module _ (d : ℕ) (bytes : List ℕ) (m k : ℕ) where
+  -- the last pair has it
+  pub partner-last : option 1 bytes m ≡ suc k → partnerOr d bytes (suc m) k ≡ option 0 bytes m - 1
+  unfolding partnerOr
+  partner-last e = rw (eq-eqb (option 1 bytes m) (suc k) e, partnerOr)
+
+  -- it does not, and the pairs before it decide
+  pub partner-before : (option 1 bytes m ≡ suc k → ⊥) → partnerOr d bytes (suc m) k ≡ partnerOr d bytes m k
+  unfolding partnerOr
+  partner-before other = rw (ne-eqb (option 1 bytes m) (suc k) other, partnerOr)
+
+-- a partner, or none
+abbrev Cases : ℕ → List ℕ → ℕ → ℕ → Type 0
+Cases d bytes m k = Partner bytes m k (partnerOr d bytes m k) ⊎ (NoPartner bytes m k × (partnerOr d bytes m k ≡ d))
+
+pub partner-cases : (d : ℕ) (bytes : List ℕ) (m k : ℕ) → Cases d bytes m k
 unfolding partnerOr
 partner-cases d bytes zero k = inr (λ i h e. absurd (omega arith), refl)
 partner-cases d bytes (suc m) k = go (partner-cases d bytes m k) (eqb (option 1 bytes m) (suc k)) refl
   where
-    here : eqb (option 1 bytes m) (suc k) ≡ true → partnerOr d bytes (suc m) k ≡ option 0 bytes m - 1
-    here e = rw (e, partnerOr)
-
-    later : eqb (option 1 bytes m) (suc k) ≡ false → partnerOr d bytes (suc m) k ≡ partnerOr d bytes m k
-    later e = rw (e, partnerOr)
-
-    go :
-        Partner bytes m k (partnerOr d bytes m k) ⊎ (NoPartner bytes m k × (partnerOr d bytes m k ≡ d)) →
-        (b : Bool) → eqb (option 1 bytes m) (suc k) ≡ b →
-        Partner bytes (suc m) k (partnerOr d bytes (suc m) k) ⊎ (NoPartner bytes (suc m) k × (partnerOr d bytes (suc m) k ≡ d))
-    go before true e = inl (record { pair = m; below = omega arith; second = eqb-true _ _ e; first = here e })
-    go (inl p) false e = inl (record { pair = p .pair; below = omega (arith, p .below); second = p .second; first = later e ∙ p .first })
+    go : Cases d bytes m k → (b : Bool) → eqb (option 1 bytes m) (suc k) ≡ b → Cases d bytes (suc m) k
+    go before true e =
+        let here = eqb-true (option 1 bytes m) (suc k) e in
+        inl (record { pair = m; below = omega arith; second = here; first = partner-last d bytes m k here })
+    go (inl p) false e =
+        inl
+        (record {
+          pair = p .pair;
+          below = omega (arith, p .below);
+          second = p .second;
+          first = partner-before d bytes m k (eqb-false _ _ e) ∙ p .first;
+        })
     go (inr n) false e =
-        inr (λ i h same. below-suc (λ j. option 1 bytes j ≡ suc k → ⊥) i m h (λ less. n .0 i less) (eqb-false _ _ e) same, later e ∙ n .1)
+        inr (
+          λ i h same. below-suc (λ j. option 1 bytes j ≡ suc k → ⊥) i m h (λ less. n .0 i less) (eqb-false _ _ e) same,
+          partner-before d bytes m k (eqb-false _ _ e) ∙ n .1,
+        )
 
 -- ---- how many are unpaired
 
@@ -142,7 +160,11 @@ module _ (n m : ℕ) (bytes : List ℕ) (e₀ : sideFault n 0 bytes (pairCount b
       let f = fits 1 bytes m count e₁ (i .0) (i .1) in
       none (i .0) (i .1) (omega (arith, i .2, f .low)))
 
-  pub place-cases : (k : ℕ) → Partner bytes count k (place n bytes k) ⊎ (NoPartner bytes count k × (place n bytes k ≡ n + unpairedBelow bytes k))
+  -- the partner's place, or one after the first book's
+  abbrev pub Placing : ℕ → Type 0
+  Placing k = Partner bytes count k (place n bytes k) ⊎ (NoPartner bytes count k × (place n bytes k ≡ n + unpairedBelow bytes k))
+
+  pub place-cases : (k : ℕ) → Placing k
   unfolding place
   place-cases k = partner-cases (n + unpairedBelow bytes k) bytes count k
 
@@ -168,9 +190,7 @@ module _ (n m : ℕ) (bytes : List ℕ) (e₀ : sideFault n 0 bytes (pairCount b
   pub places-apart : Apart (place n bytes) m
   places-apart j k hj hk same = go (place-cases j) (place-cases k)
     where
-      go :
-          Partner bytes count j (place n bytes j) ⊎ (NoPartner bytes count j × (place n bytes j ≡ n + unpairedBelow bytes j)) →
-          Partner bytes count k (place n bytes k) ⊎ (NoPartner bytes count k × (place n bytes k ≡ n + unpairedBelow bytes k)) → j ≡ k
+      go : Placing j → Placing k → j ≡ k
       go (inl a) (inl b) =
           let fa = fits 0 bytes n count e₀ (a .pair) (a .below) in
           let fb = fits 0 bytes n count e₀ (b .pair) (b .below) in
