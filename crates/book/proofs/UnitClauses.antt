@@ -32,7 +32,7 @@ unfolding unitsOf
 unitsOf-step b x h = rw (members-step x h)
 
 -- a word has as many members as bits
-length-members : (k x : ℕ) → ones x ≡ k → length (members x) ≡ k
+pub length-members : (k x : ℕ) → ones x ≡ k → length (members x) ≡ k
 length-members zero x e = go (isZero x) refl
   where
     go : (b : Bool) → isZero x ≡ b → length (members x) ≡ zero

@@ -1,4 +1,4 @@
-// The check, the page, the morning, open options, the terminal, the desk and joined books for C and Rust: exported functions on numbers and slices (rust/optcheck/include/optcheck.h is their header).
+// The check, the page, the morning, open options, the terminal, the desk, joined books and turns for C and Rust: exported functions on numbers and slices (rust/optcheck/include/optcheck.h is their header).
 ghost use Rattle.contract.specs.Filled.{lent};
 ghost use Rattle.page.specs.Filed.{Filed};
 ghost use Rattle.morning.specs.Morning.{Serves};
@@ -6,12 +6,14 @@ ghost use Rattle.undecided.specs.Told.{Told};
 ghost use Rattle.sites.specs.Handed.{terminalOf, HandsOpening, HandsSite};
 ghost use Rattle.drafts.specs.Desk.{Makes, Alters, Call.set, Call.clear, Call.keep, Call.return};
 ghost use Rattle.joint.specs.Handed.{Hands};
+ghost use Rattle.turns.specs.Handed.{places, Hands as HandsTurns};
 ghost use Rattle.optcheck_c.specs.Exported.{Exported};
 use drafts::Desk;
 use joint::Joined;
 use order::Order;
 use sites::Opening;
 use sites::Terminal;
+use turns::Turns;
 
 // Checks the book and the order, fills the lent tables and returns the answer as one word (crate `answer`, `packed`).
 #[no_mangle]
@@ -242,6 +244,46 @@ pub extern "C" fn optcheck_join(
         Joined::Refused(k) => k,
         Joined::Written(size) => {
             *length = size;
+            0
+        }
+    }
+}
+
+// Settles the free options in turn (crate `playing`): 0, and `forced` is 1 if the planner can force it and else 0, and `out` and `fitted` are his answers to "left out"
+// and "fitted" (0 none, 1 left out, 2 fitted); or the number of a refusal, and nothing is changed.
+#[no_mangle]
+pub extern "C" fn optcheck_turns(
+    book: &[u8],
+    wanted: u64,
+    unwanted: u64,
+    standard: u64,
+    forced: &mut u32,
+    out: &mut u32,
+    fitted: &mut u32,
+) -> u32
+    ensures { λ r. ⌜ HandsTurns (now (book .entry)) (record { wanted = wanted; unwanted = unwanted; standard = standard }) (places (now (forced .entry)) (now (out .entry)) (now (fitted .entry))) r (places (now (forced .exit)) (now (out .exit)) (now (fitted .exit))) ⌝ }
+{
+    let order = Order {
+        wanted,
+        unwanted,
+        standard,
+    };
+    match playing::turns(book, order) {
+        Turns::Refused(k) => k,
+        Turns::Forced(r) => {
+            *forced = 1;
+            let to_out = r.out;
+            let to_fitted = r.fitted;
+            *out = playing::number_of(to_out);
+            *fitted = playing::number_of(to_fitted);
+            0
+        }
+        Turns::Open(r) => {
+            *forced = 0;
+            let to_out = r.out;
+            let to_fitted = r.fitted;
+            *out = playing::number_of(to_out);
+            *fitted = playing::number_of(to_fitted);
             0
         }
     }

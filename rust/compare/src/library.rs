@@ -1,9 +1,9 @@
 //! The proved static library as a checker.
 
-use crate::lent::{desk, join, morning, open, page, sites, terminal, Lent};
+use crate::lent::{desk, join, morning, open, page, sites, terminal, turns, Lent};
 use crate::question::{after_text, answers_text, first_difference, in_turn, joined_text};
-use crate::question::{state_text, tried_text, Question};
-use crate::question::{Check, Desk, Join, Morning, Open, Page, Sites, State, Terminal};
+use crate::question::{settled_text, state_text, tried_text, Question};
+use crate::question::{Check, Desk, Join, Morning, Open, Page, Sites, State, Terminal, Turns};
 use crate::under_test::UnderTest;
 use optcheck::{DeskWords, Site};
 use port::{Call, Outcome, Places};
@@ -29,7 +29,8 @@ impl UnderTest for Library {
             | Question::Terminal(_)
             | Question::Desk(_)
             | Question::State(_)
-            | Question::Join(_) => true,
+            | Question::Join(_)
+            | Question::Turns(_) => true,
         }
     }
 
@@ -44,6 +45,7 @@ impl UnderTest for Library {
             Question::Desk(desk) => self.desk(desk),
             Question::State(state) => self.state(state),
             Question::Join(join) => self.join(join),
+            Question::Turns(turns) => self.turns(turns),
         }
     }
 }
@@ -142,6 +144,14 @@ impl Library {
             optcheck::join_bytes(first, second, pairs, book, length)
         })?;
         Ok(joined_text(&joined))
+    }
+
+    fn turns(&self, question: &Turns) -> Result<String, String> {
+        let Turns { book, order } = question;
+        let settled = turns::lend(self.rubbish, |[forced, to_out, to_fitted]| {
+            optcheck::turns_words(book, *order, forced, to_out, to_fitted)
+        })?;
+        Ok(settled_text(&settled))
     }
 }
 

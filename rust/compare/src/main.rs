@@ -28,6 +28,7 @@ mod shapes;
 mod small;
 mod tallies;
 mod terminals;
+mod turns;
 mod undecided;
 mod under_test;
 mod vectors;
@@ -39,8 +40,8 @@ use under_test::{Port, Program, UnderTest};
 
 const USAGE: &str = "\
 compare differential [--program PATH [--page-program PATH]] [--seed S] [--books N] [--solver NAME]
-    generated books, mornings, open options, sites, pages, desks and joined books through the checker
-    and the port, each verdict on a book also by an outside solver
+    generated books, mornings, open options, sites, pages, desks, joined books and turns through the
+    checker and the port, each verdict on a book also by an outside solver
 compare vectors FILE... [--program PATH [--page-program PATH]]
     the cases of these files through the checker and the port
 compare allowances
@@ -50,19 +51,20 @@ compare tallies [--seed S] [--books N]
 compare framed FILE... FOLDER
     the programs' cases of these files as the test program `vectors` reads and writes them, in FOLDER
 compare bench [--seed S] [--solver NAME]
-    the same books through the checker, the port and outside solvers, and mornings, open options and
-    sites beside single checks, as tables
+    the same books through the checker, the port and outside solvers, mornings, open options and sites
+    beside single checks, and turns, as tables
 
 The checker is the program at PATH, with the one that prints pages, or, where compare is built with the
 feature `proved`, the library.
-The outside solver is the first installed of minisat, cadical and picosat, if NAME does not say.
+The outside solver is the first installed of minisat, cadical and picosat, if NAME does not say; of turns
+it is depqbf, where it is installed.
 ";
 
 const SEED: u64 = 1;
 const BOOKS: usize = 4000;
 
 /// What the lent tables hold before a run; for mornings, open options, sites, pages and desks, its complement
-/// in turn with it; for joined books both, one after the other.
+/// in turn with it; for joined books and turns both, one after the other.
 const RUBBISH: u64 = 0xa5a5_5a5a_a5a5_5a5a;
 
 /// The words of the command line after the subcommand.
@@ -149,6 +151,14 @@ fn differential(words: &Words) -> Result<(), String> {
     if let Some(tally) = joins::run(tested[0].as_mut(), &kept, seed, joins::beside(books))? {
         print!("{}", tally.told());
     }
+    let depqbf = Solver::quantified();
+    let outside: Result<turns::Outside, String> = match &depqbf {
+        Ok(solver) => Ok(&|clauses| solver.can_be_kept(clauses)),
+        Err(missing) => Err(missing.clone()),
+    };
+    if let Some(tally) = turns::run(tested[0].as_mut(), outside, seed, turns::beside(books))? {
+        print!("{}", tally.told());
+    }
     println!("no difference, in {:.1} s", start.elapsed().as_secs_f64());
     Ok(())
 }
@@ -219,7 +229,7 @@ fn bench(words: &Words) -> Result<(), String> {
     if let (Err(missing), Some(_)) = (&solver, &words.solver) {
         return Err(missing.clone());
     }
-    bench::run(solver, in_process::all(), words.seed.unwrap_or(SEED))
+    bench::run(solver, in_process::all(), Solver::quantified(), words.seed.unwrap_or(SEED))
 }
 
 /// The program that was given, else the library, with this rubbish in the tables that it is lent.

@@ -1,5 +1,6 @@
-//! An outside solver: minisat, cadical or picosat, run as a process on a DIMACS file. All three end
-//! with status 10 where the rules can be kept and with 20 where they cannot.
+//! An outside solver, run as a process on a file: minisat, cadical or picosat on a DIMACS file, and depqbf on a
+//! QDIMACS file, whose clauses stand after quantifiers. All of them end with status 10 where the rules can be
+//! kept and with 20 where they cannot.
 
 use optbook::{dimacs, Book, Order};
 use std::path::{Path, PathBuf};
@@ -9,6 +10,8 @@ use std::{env, fs, process};
 
 /// The solvers looked for, in this order.
 const SOLVERS: [&str; 3] = ["minisat", "cadical", "picosat"];
+/// The solver of quantified clauses.
+const QUANTIFIED: &str = "depqbf";
 
 pub const STATUS_CAN: i32 = 10;
 pub const STATUS_CANNOT: i32 = 20;
@@ -36,6 +39,11 @@ impl Solver {
         Ok(Solver { program, file: own_file("cnf") })
     }
 
+    /// The solver of quantified clauses, where it is installed.
+    pub fn quantified() -> Result<Solver, String> {
+        Solver::find(Some(QUANTIFIED))
+    }
+
     pub fn name(&self) -> String {
         self.program.file_name().unwrap_or_default().to_string_lossy().into_owned()
     }
@@ -46,7 +54,7 @@ impl Solver {
         self.run()
     }
 
-    /// The solver's verdict on clauses in the DIMACS form: they can all be kept.
+    /// The solver's verdict on clauses in its own form: they can all be kept.
     pub fn can_be_kept(&self, clauses: &str) -> Result<bool, String> {
         self.write(clauses)?;
         self.run()
@@ -57,7 +65,8 @@ impl Solver {
         self.write(&dimacs::write(book, order))
     }
 
-    fn write(&self, clauses: &str) -> Result<(), String> {
+    /// Writes clauses in the solver's own form to its file.
+    pub fn write(&self, clauses: &str) -> Result<(), String> {
         fs::write(&self.file, clauses).map_err(|error| format!("{}: {error}", self.file.display()))
     }
 
@@ -117,5 +126,15 @@ mod tests {
         let solver = Solver::find(Some("true")).unwrap();
         let error = solver.can_be_built(Order::default(), &Book::default()).unwrap_err();
         assert_eq!(error, "true ended with Some(0), not with 10 or 20");
+    }
+
+    /// Options 1 and 2 are alike: it matters which is settled first, and by whom.
+    #[test]
+    fn a_solver_of_quantified_clauses_that_is_there_minds_their_sequence() {
+        let Ok(solver) = Solver::quantified() else { return };
+        let of = |prefix: &str| solver.can_be_kept(&format!("p cnf 2 2\n{prefix}1 -2 0\n2 -1 0\n"));
+        assert_eq!(of("a 1 0\ne 2 0\n"), Ok(true));
+        assert_eq!(of("e 1 0\na 2 0\n"), Ok(false));
+        assert_eq!(of("e 1 0\ne 2 0\n"), Ok(true));
     }
 }

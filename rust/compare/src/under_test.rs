@@ -74,7 +74,8 @@ impl Program {
             | Question::Page(_)
             | Question::Desk(_)
             | Question::State(_)
-            | Question::Join(_) => None,
+            | Question::Join(_)
+            | Question::Turns(_) => None,
         }
     }
 }
@@ -98,7 +99,7 @@ mod tests {
     use super::*;
     use crate::kinds::case;
     use crate::question::{Check, Page};
-    use crate::{desks, joins, mornings, terminals, undecided};
+    use crate::{desks, joins, mornings, terminals, turns, undecided};
 
     fn program(path: &str, page: Option<&str>) -> Program {
         Program { path: path.to_string(), page: page.map(str::to_string) }
@@ -154,5 +155,6 @@ mod tests {
         assert!(!program.takes(&desks::desk(1, 1).into()));
         assert!(!program.takes(&desks::state(1, 1).into()));
         assert!(!program.takes(&joins::join(1, 1).into()));
+        assert!(!program.takes(&turns::turns(1, 1).into()));
     }
 }

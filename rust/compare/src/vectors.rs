@@ -10,7 +10,7 @@ use std::collections::BTreeMap;
 use std::fmt::Write;
 
 /// Questions of the format that no checker answers yet.
-const NOT_YET: [&str; 2] = ["turns", "cheapest"];
+const NOT_YET: [&str; 1] = ["cheapest"];
 
 /// A case: its name, what is asked, and what must be printed.
 struct Vector {
@@ -207,6 +207,12 @@ mod tests {
                         book 030100\
                         04000000000000000200000000000000\nend\n";
 
+    /// The rule "2": whatever the buyer says of option 1, the planner fits option 2.
+    const TURNS: &str = "case turns\nturns\n\
+                         book 020100\
+                         02000000000000000000000000000000\n\
+                         order 0 0 0\nout\nforced fitted fitted\nend\n";
+
     fn through_the_port(text: &str) -> Result<(Score, String), String> {
         run(&mut [Box::new(Port)], text)
     }
@@ -317,11 +323,20 @@ mod tests {
     }
 
     #[test]
+    fn a_verdict_on_turns_and_the_two_answers_stand_on_one_line() {
+        let out = TURNS.replace("forced fitted fitted", "forced out fitted");
+        let (score, told) = through_the_port(&format!("{TURNS}{out}")).unwrap();
+        assert_eq!((score.agree, score.differ), (1, vec!["turns".to_string()]));
+        let due = "line 1 is `forced fitted fitted`, due is `forced out fitted`";
+        assert_eq!(told, format!("case turns differs, port: {due}\n"));
+    }
+
+    #[test]
     fn what_is_not_known_yet_is_skipped_by_name() {
-        let turns = "case a turn\nturns\nbook 000000\norder 0 0 0\nout\nforced\nend\n";
-        let (score, told) = through_the_port(&format!("{SMALL}{turns}")).unwrap();
+        let price = "case a price\ncheapest\nbook 000000\norder 0 0 0\nout\ncan 0 0 0\nend\n";
+        let (score, told) = through_the_port(&format!("{SMALL}{price}")).unwrap();
         assert_eq!(score, Score { agree: 1, differ: Vec::new(), skipped: 1 });
-        assert_eq!(told, "skipped, `turns` is not known yet (1): a turn\n");
+        assert_eq!(told, "skipped, `cheapest` is not known yet (1): a price\n");
     }
 
     #[test]
@@ -360,6 +375,8 @@ mod tests {
             ("desk_more.txt", 50),
             ("join.txt", 250),
             ("join_more.txt", 90),
+            ("turns.txt", 250),
+            ("turns_more.txt", 120),
         ];
         for (file, cases) in files {
             let text = std::fs::read_to_string(format!("{folder}/{file}")).unwrap();

@@ -45,8 +45,9 @@ fn a_vector_that_differs_is_named() {
 
 #[test]
 fn a_question_that_a_program_does_not_take_is_named_and_no_difference() {
-    for file in ["morning.txt", "open.txt", "sites.txt", "page.txt", "desk.txt", "join.txt"] {
-        let output = compare(&["vectors", &vectors(file), "--program", "cat"]);
+    let files = ["morning", "open", "sites", "page", "desk", "join", "turns"];
+    for file in files.map(|name| format!("{name}.txt")) {
+        let output = compare(&["vectors", &vectors(&file), "--program", "cat"]);
         assert_eq!(output.status.code(), Some(0), "{}", said(&output));
         let told = String::from_utf8_lossy(&output.stdout);
         assert!(told.contains("\nnot asked of the program cat (250): 0, 1, 2, 3, "), "{told}");

@@ -69,8 +69,7 @@ impl fmt::Display for Failure {
                 f.write_str(what)
             }
             Failure::Unlinked => f.write_str(
-                "built without the proved library, so it checks and joins nothing: build it with \
-                 ./check",
+                "built without the proved library, which alone answers this: build it with ./check",
             ),
             Failure::Unwritten(error) => write!(f, "standard output: {error}"),
         }

@@ -1,14 +1,14 @@
 //! The proved check, that of a morning's orders together, that of every setting of open options, and that
 //! of sites that share one allowance, through the wrapper: tables are lent to the library, and what it
-//! wrote into them is taken out. Each answer here is the library's own, and so are the page of a check and
-//! the joint book of two.
+//! wrote into them is taken out. Each answer here is the library's own, and so are the page of a check, the
+//! joint book of two, and what the planner can force where buyer and planner take turns.
 
 #[cfg(feature = "proved")]
 use crate::lent::Lent;
 use crate::{Book, Order, Rule};
 #[cfg(feature = "proved")]
 use optcheck::Terminal;
-pub use optcheck::{Answer, Kind, Page, Verdict};
+pub use optcheck::{Answer, Kind, Page, Response, Turns, Verdict};
 
 /// What a check may use, each check of a morning, and each setting of open options: branchings, and
 /// places for derived rules. Sites share the branchings, and each has so many places.
@@ -63,6 +63,10 @@ pub type Sites = Result<Vec<Served>, u32>;
 
 /// What two books are joined to: the joint book, or the number of the refusal.
 pub type Joined = Result<Book, u32>;
+
+/// What turns on the free options end with: whether the planner can force a plant, and the answers; or the
+/// number of the refusal.
+pub type Settled = Result<Turns, u32>;
 
 /// The proved library is not linked.
 #[derive(Clone, Copy, Debug, PartialEq, Eq)]
@@ -154,6 +158,12 @@ pub fn join(first: &Book, second: &Book, pairs: &[u8]) -> Result<Joined, Unlinke
     Ok(joined.map(book))
 }
 
+/// What the planner can force, proved, where buyer and planner settle the free options in turns.
+#[cfg(feature = "proved")]
+pub fn turns(book: &Book, order: Order) -> Result<Settled, Unlinked> {
+    Ok(optcheck::turns(&crate::bytes::book_bytes(book), order))
+}
+
 /// Without the library nothing is checked.
 #[cfg(not(feature = "proved"))]
 pub fn check(_: &Book, _: Order, _: Limits) -> Result<Checked, Unlinked> {
@@ -187,5 +197,11 @@ pub fn page(_: &Book, _: Order, _: u32) -> Result<Page, Unlinked> {
 /// Without the library nothing is joined.
 #[cfg(not(feature = "proved"))]
 pub fn join(_: &Book, _: &Book, _: &[u8]) -> Result<Joined, Unlinked> {
+    Err(Unlinked)
+}
+
+/// Without the library nothing is said of turns.
+#[cfg(not(feature = "proved"))]
+pub fn turns(_: &Book, _: Order) -> Result<Settled, Unlinked> {
     Err(Unlinked)
 }

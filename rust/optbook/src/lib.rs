@@ -2,10 +2,10 @@
 //!
 //! `sheet` reads the readable form with the line of each `mistake`, and `text` writes it; `bytes` and
 //! `dimacs` are the two other forms of a book. `engine` is the proved check of an order, of several, of
-//! one with open options, or of sites that share one allowance, and the page of one, `outcome` tells what
-//! it found with the options' names, and `explain` looks for the reason of a `cannot`. `desk` is the library's
-//! desk, `session` what is done at it, and `command` reads what is asked for there. `join` has the names and
-//! the places of two books that the library joined.
+//! one with open options, or of sites that share one allowance, the page of one, and what a planner can force
+//! in turns with a buyer, `outcome` tells what it found with the options' names, and `explain` looks for the
+//! reason of a `cannot`. `desk` is the library's desk, `session` what is done at it, and `command` reads what
+//! is asked for there. `join` has the names and the places of two books that the library joined.
 
 pub mod bytes;
 pub mod command;

@@ -22,6 +22,7 @@ fn reason(number: u32) -> &'static str {
         13 => "the number of orders is not 1 to 16",
         14 => "the draft's number is not 1 to 16",
         15 => "that draft was never kept",
+        16 => "more than 12 options are free",
         19 => "more than 10 options are open, or one is above the book's last",
         20 => "an open option is also wanted or unwanted",
         21 => "the number of sites is not 1 to 8",
@@ -120,6 +121,7 @@ mod tests {
         let fourteen = "refused, number 14: the draft's number is not 1 to 16";
         assert_eq!(refusal(14), fourteen);
         assert_eq!(refusal(15), "refused, number 15: that draft was never kept");
+        assert_eq!(refusal(16), "refused, number 16: more than 12 options are free");
         let nineteen =
             "refused, number 19: more than 10 options are open, or one is above the book's last";
         assert_eq!(told(Kind::Refused, 19), nineteen);

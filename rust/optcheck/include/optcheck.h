@@ -3,14 +3,16 @@
  * tables that the caller lends, and returns the answer as one word; another checks several orders
  * of one book; a third checks an order with every setting of options that are left open; two more
  * serve sites, one a call, that share one allowance; another writes the outcome as a page of text;
- * five more make and alter a desk, which has an order and drafts of it to come back to; and the last
- * joins two books into one. Every length is permitted: a bad one is a refusal, and a page that is
- * too short stays as it was.
+ * five more make and alter a desk, which has an order and drafts of it to come back to; another
+ * joins two books into one; and the last says whether the planner can force a plant where buyer and
+ * planner settle the free options in turns. Every length is permitted: a bad one is a refusal, and a
+ * page that is too short stays as it was.
  *
  * Books, orders, pairs, answers, each table, the page and the joint book are a pointer and a length
- * in elements, and a verdict, a setting, the numbers of a terminal, a desk and a length that is
- * handed over are pointers. What is written overlaps nothing else; books, orders and pairs that are
- * given are only read. A pointer with the length 0 is not used, and must not be null.
+ * in elements, and a verdict, a setting, the numbers of a terminal, a desk, the planner's answers
+ * and a length that is handed over are pointers. What is written overlaps nothing else; books, orders
+ * and pairs that are given are only read. A pointer with the length 0 is not used, and must not be
+ * null.
  */
 
 #ifndef OPTCHECK_H
@@ -24,8 +26,8 @@
 extern "C" {
 #endif
 
-/* The limits of a book, of the lent tables, of a morning, of open options, of a terminal and of a
- * desk, and the lengths of a page and of a book. */
+/* The limits of a book, of the lent tables, of a morning, of open options, of a terminal, of a desk
+ * and of turns, and the lengths of a page and of a book. */
 #define OPTCHECK_OPTIONS 64u
 #define OPTCHECK_RULES 1024u
 #define OPTCHECK_DERIVED_PLACES 2048u /* pos and neg: equal lengths, at most this */
@@ -34,6 +36,7 @@ extern "C" {
 #define OPTCHECK_OPEN 10u             /* open options: at most this */
 #define OPTCHECK_SITES 8u             /* a terminal: at least one site, at most this */
 #define OPTCHECK_DRAFTS 16u           /* a desk: its drafts are 1 to this */
+#define OPTCHECK_FREE 12u             /* turns: free options, at most this */
 #define OPTCHECK_PAGE_LINE 41u        /* a page: the bytes of a line */
 #define OPTCHECK_PAGE_BYTES 84009u    /* the longest page: a line, and one for each derived rule */
 #define OPTCHECK_BOOK_BYTES 16387u    /* the longest book: 3, and 16 for each rule */
@@ -252,6 +255,30 @@ uint32_t optcheck_join(
     uint8_t *book, size_t book_len,
     size_t *length);
 
+/*
+ * Says whether the planner can force that every rule and wish is kept, whatever the buyer says.
+ *
+ * The order is completed as by optcheck_check, and an option that is then neither wanted nor
+ * unwanted is free. The free options are settled in ascending number, each as fitted or left out,
+ * by the buyer and the planner in turn, the buyer first. Where no option is free, the planner can
+ * force it exactly if the one choice that is left keeps every rule and wish.
+ *
+ *   forced     1 where the planner can force it, and else 0
+ *   to_out     an answer on the second free option with which the planner can still force it after
+ *              the buyer has left out the first: OPTCHECK_LEAVE_OUT, also where both serve,
+ *              OPTCHECK_FIT, or OPTCHECK_NO_ANSWER where neither does or there is no second one
+ *   to_fitted  the same after the buyer has fitted the first
+ *
+ * Where it is forced, no optcheck_check of this book and order answers OPTCHECK_CANNOT.
+ *
+ * The result is 0. Or it is the number of a refusal, and none of the three is touched: 1 to 8 or 12,
+ * as of optcheck_check, and then 16, more than OPTCHECK_FREE options are free.
+ */
+uint32_t optcheck_turns(
+    const uint8_t *book, size_t book_len,
+    uint64_t wanted, uint64_t unwanted, uint64_t standard,
+    uint32_t *forced, uint32_t *to_out, uint32_t *to_fitted);
+
 /* The kinds of an answer. */
 #define OPTCHECK_CAN 0u
 #define OPTCHECK_CANNOT 1u
@@ -262,6 +289,11 @@ uint32_t optcheck_join(
 #define OPTCHECK_ALWAYS 0u
 #define OPTCHECK_SOMETIMES 1u
 #define OPTCHECK_NEVER 2u
+
+/* The planner's answers. */
+#define OPTCHECK_NO_ANSWER 0u
+#define OPTCHECK_LEAVE_OUT 1u
+#define OPTCHECK_FIT 2u
 
 /*
  * The parts of the answer's word, lowest bits first: 2 bits kind, 6 number, 32 branchings,
@@ -274,8 +306,8 @@ static inline unsigned optcheck_kind(uint64_t answer) { return (unsigned)(answer
 /*
  * 0 for a verdict, 1 to 9 or 12 refused (12: a standard option above the book's last), 10 or 11
  * stopped. 19 and 20 are refusals of optcheck_undecided alone, and 21 one of optcheck_site alone.
- * 13, 14, 15, 22 and 23 are no answer's numbers: a morning that is refused has no answers, and a
- * desk and joined books have none.
+ * 13, 14, 15, 16, 22 and 23 are no answer's numbers: a morning that is refused has no answers, and a
+ * desk, turns and joined books have none.
  */
 static inline unsigned optcheck_number(uint64_t answer) { return (unsigned)(answer >> 2 & 63); }
 

@@ -1,6 +1,6 @@
 //! A safe wrapper over the proved checker's static library (include/optcheck.h). `check`, `morning`,
-//! `undecided`, `sites`, `Terminal`, `page`, `Desk` and `join` are there with the feature `proved`; without
-//! it nothing is linked.
+//! `undecided`, `sites`, `Terminal`, `page`, `Desk`, `join` and `turns` are there with the feature `proved`;
+//! without it nothing is linked.
 
 mod answer;
 mod desk;
@@ -9,6 +9,7 @@ mod library;
 mod order;
 mod page;
 mod tried;
+mod turns;
 
 pub use answer::{Answer, Kind};
 pub use desk::{DeskWords, DRAFTS};
@@ -24,10 +25,13 @@ pub use library::{join, join_bytes};
 pub use library::{page, page_bytes};
 #[cfg(feature = "proved")]
 pub use library::{site_words, sites, terminal_words, Site, Terminal};
+#[cfg(feature = "proved")]
+pub use library::{turns, turns_words};
 pub use order::Order;
 pub use page::{Page, PAGE_BYTES, PAGE_LINE};
 use std::ops::Range;
 pub use tried::{Tried, Verdict};
+pub use turns::{Response, Turns};
 
 /// The bytes of the longest book, which has 1,024 rules.
 pub const BOOK_BYTES: usize = 3 + 16 * 1024;

@@ -6,7 +6,8 @@
 //! with open options, and tries every setting of them. `sites` takes several orders of one book that
 //! share one allowance. `page` makes the page of an outcome. `Desk` is an order with drafts to come back to,
 //! as the list of its calls, and `DeskWords` what a call does to a desk of any words. `join` makes one book of
-//! two. `run_program` does what the program does with its standard input.
+//! two. `turns` says whether the planner can force a plant where the buyer and he settle the free options.
+//! `run_program` does what the program does with its standard input.
 
 mod book;
 mod desk;
@@ -19,6 +20,7 @@ mod program;
 mod request;
 mod sites;
 mod steps;
+mod turns;
 mod undecided;
 mod words;
 
@@ -31,5 +33,6 @@ pub use page::page;
 pub use program::{run_program, PROGRAM_ALLOWANCE, PROGRAM_PLACES, PROGRAM_RECORD_PLACES};
 pub use request::{check, Order, Places, Request};
 pub use sites::{sites, Served, Site, Sites};
+pub use turns::{turns, Response, Turns};
 pub use undecided::{undecided, Tables, Tried, Undecided, Verdict};
 pub use words::{Decisions, Record, Rule};

@@ -1,11 +1,12 @@
 //! The same books through the library, the port, the outside solvers whose libraries are there and an
 //! outside solver's process, in one run and in turns, as a table; mornings through the library as a
-//! second one, open options as a third, and sites as a fourth. Times are medians of repeated runs; ratios
-//! hold across machines, times do not.
+//! second one, open options as a third, sites as a fourth, and turns of buyer and planner as a fifth. Times
+//! are medians of repeated runs; ratios hold across machines, times do not.
 
 mod morning;
 mod open;
 mod sites;
+mod turns;
 
 use crate::in_process::{Clauses, InProcess};
 use crate::outside::Solver;
@@ -51,10 +52,11 @@ struct Times {
     solver: Option<Duration>,
 }
 
-/// Measures every row and prints the tables.
+/// Measures every row and prints the tables. Of the two solvers the second is that of quantified clauses.
 pub fn run(
     solver: Result<Solver, String>,
     in_process: Vec<Result<InProcess, String>>,
+    quantified: Result<Solver, String>,
     seed: u64,
 ) -> Result<(), String> {
     println!("{}", heading(&solver, &in_process));
@@ -76,7 +78,8 @@ pub fn run(
     );
     morning::run(seed)?;
     open::run(seed)?;
-    sites::run(seed)
+    sites::run(seed)?;
+    turns::run(quantified, seed)
 }
 
 /// The head of the table, after a note on each solver that is missing.

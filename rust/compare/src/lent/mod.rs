@@ -2,7 +2,8 @@
 //! so that it shows what a check has written and that it has written nothing else. For a morning each
 //! table is cut into equal parts, and an order's part has its outcome. For open options the tables are
 //! set to zero, and have the last setting's outcome. For sites each has tables of its own, and a
-//! terminal's numbers are lent too. A page and a joint book are lent as bytes, and a desk as its words.
+//! terminal's numbers are lent too. A page and a joint book are lent as bytes, a desk as its words, and what
+//! comes of turns as three words.
 
 pub mod desk;
 pub mod join;
@@ -11,6 +12,7 @@ pub mod open;
 pub mod page;
 pub mod sites;
 pub mod terminal;
+pub mod turns;
 
 use optcheck::{Answer, Kind, Tables};
 use port::{Decisions, Ending, Outcome, Places, Record, Rule, CAN, CANNOT};

@@ -11,6 +11,7 @@ mod page;
 mod sites;
 mod state;
 mod terminal;
+mod turns;
 
 pub use check::{Check, ORDER};
 pub use desk::{answers_text, Answers, Desk};
@@ -21,6 +22,7 @@ pub use page::Page;
 pub use sites::{Site, Sites};
 pub use state::{state_text, State};
 pub use terminal::{after_text, After, Terminal};
+pub use turns::{forced_name, settled_name, settled_text, Settled, Turns};
 
 use crate::fields::key_and_value;
 use crate::hex::bytes;
@@ -38,6 +40,7 @@ pub enum Question {
     Desk(Desk),
     State(Box<State>),
     Join(Join),
+    Turns(Turns),
 }
 
 impl Question {
@@ -57,6 +60,7 @@ impl Question {
             ("desk", options) => Ok(Desk::read(options, fields)?.into()),
             ("state", "") => Ok(State::read(fields)?.into()),
             ("join", "") => Ok(Join::read(fields)?.into()),
+            ("turns", "") => Ok(Turns::read(fields)?.into()),
             (key, _) => Err(format!("`{key}` is no question")),
         }
     }
@@ -73,6 +77,7 @@ impl Question {
             Question::Desk(desk) => answers_text(&desk.port_answers()),
             Question::State(state) => state_text(&state.port_after()),
             Question::Join(join) => joined_text(&join.port_joined()),
+            Question::Turns(turns) => settled_text(&turns.port_settled()),
         }
     }
 }
@@ -128,6 +133,12 @@ impl From<State> for Question {
 impl From<Join> for Question {
     fn from(join: Join) -> Question {
         Question::Join(join)
+    }
+}
+
+impl From<Turns> for Question {
+    fn from(turns: Turns) -> Question {
+        Question::Turns(turns)
     }
 }
 

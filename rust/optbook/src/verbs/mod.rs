@@ -12,6 +12,7 @@ mod open;
 mod page;
 mod sites;
 mod text;
+mod turns;
 
 use crate::arguments::{Arguments, Files};
 use crate::ending::{Failure, Printed};
@@ -27,6 +28,7 @@ pub const VERBS: &[Verb] = &[
     page::VERB,
     desk::VERB,
     join::VERB,
+    turns::VERB,
     bytes::VERB,
     text::VERB,
     dimacs::VERB,
@@ -87,8 +89,9 @@ FIRST and SECOND of join are two books, and PAIRS are NAME=NAME, a name of the o
 Exit status: check, explain and page end with 0 where the order can be built, 1 where it cannot, 2
 where the checker refuses it, 3 where it stops without a verdict, and morning and sites with the highest
 of their orders; open with 0 where every setting can be built, 1 where none can, 2 and 3 likewise, and 4
-where some can but not all; join with 2 where the joint book is refused; and else the other verbs with 0.
-All end with 64 on a bad command line, with 65 where what is read has a mistake or cannot be read, and with
-74 where the output cannot be written. desk goes on after a mistake in its commands: at a terminal it ends
-with 0, and otherwise then with 65.
+where some can but not all; join with 2 where the joint book is refused; turns with 0 where the planner can
+force it, 1 where not, and 2 where it is refused; and else the other verbs with 0. All end with 64 on a bad
+command line, with 65 where what is read has a mistake or cannot be read, and with 74 where the output cannot
+be written. desk goes on after a mistake in its commands: at a terminal it ends with 0, and otherwise then
+with 65.
 ";

@@ -3,7 +3,7 @@
 
 use crate::run::{optbook, CAN, DOSING, DRYING, PLANT};
 
-const VERBS: [&str; 12] = [
+const VERBS: [&str; 13] = [
     "check",
     "morning",
     "open",
@@ -12,6 +12,7 @@ const VERBS: [&str; 12] = [
     "page",
     "desk",
     "join",
+    "turns",
     "bytes",
     "text",
     "dimacs",
@@ -72,7 +73,9 @@ fn a_clause_that_is_always_kept_is_left_out_and_told() {
 
 #[test]
 fn a_mistake_is_told_once_with_file_line_and_what_was_expected() {
-    for verb in ["check", "morning", "open", "sites", "explain", "page", "bytes", "dimacs"] {
+    let verbs =
+        ["check", "morning", "open", "sites", "explain", "page", "turns", "bytes", "dimacs"];
+    for verb in verbs {
         let ended = optbook(&[verb, PLANT, "-"], b"\nwant: dram\n");
         let due = "optbook: standard input: line 2: no option is named `dram`: expected a name of \
                    an `options:` line\n";
@@ -239,6 +242,10 @@ fn a_bad_command_line_ends_with_64_and_says_how() {
             &["join", DOSING, "--same-names", DRYING, "--same-names"],
             "`--same-names` is given twice: expected it once",
         ),
+        (&["turns"], "0 files are given: expected 1 at least and 2 at most"),
+        (&["turns", PLANT, CAN, CAN], "3 files are given: expected 1 at least and 2 at most"),
+        (&["turns", "-", "-"], "`-` stands twice: standard input is read once"),
+        (&["turns", PLANT, "--allowance", "7"], "`--allowance` is unknown here"),
         (&["check", PLANT, "--same-names"], "`--same-names` is unknown here"),
         (&["check", "-", "-"], "`-` stands twice: standard input is read once"),
         (&["bytes", PLANT, "--places", "1"], "`--places` is unknown here"),
@@ -282,8 +289,8 @@ fn the_help_has_an_example_of_each_verb() {
 
 #[cfg(not(feature = "proved"))]
 #[test]
-fn without_the_library_nothing_is_checked_or_joined() {
-    for verb in ["check", "morning", "open", "sites", "explain", "page", "desk"] {
+fn without_the_library_nothing_is_answered() {
+    for verb in ["check", "morning", "open", "sites", "explain", "page", "desk", "turns"] {
         let ended = optbook(&[verb, PLANT, CAN], b"");
         assert!(ended.said.starts_with("optbook: built without the proved library"));
         assert_eq!((ended.status, ended.printed.len()), (69, 0));

@@ -16,3 +16,5 @@ mod proved;
 mod run;
 #[cfg(feature = "proved")]
 mod sites;
+#[cfg(feature = "proved")]
+mod turns;

@@ -8,6 +8,7 @@ mod page;
 mod sites;
 #[cfg(test)]
 mod small;
+mod turns;
 mod undecided;
 
 pub use check::{check, check_word};
@@ -17,4 +18,5 @@ pub use join::{join, join_bytes};
 pub use morning::{morning, morning_words};
 pub use page::{page, page_bytes};
 pub use sites::{site_words, sites, terminal_words, Site, Terminal};
+pub use turns::{turns, turns_words};
 pub use undecided::{undecided, undecided_words};
