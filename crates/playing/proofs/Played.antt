@@ -90,7 +90,8 @@ module _ (won : ℕ → Bool) (left x count : ℕ) (a : Responses) (ec : count �
 pub held : (bytes : List ℕ) (o : Order) (b : Book) (t : List ℕ) → clauseWords maxClauses ≤ length t → book (b .vars) (clauses t (b .clauses)) ≡ admit bytes o → Held b t
 held bytes o b t room e =
     let formed = admitted-book bytes o (b .vars) (clauses t (b .clauses)) e .well-formed in
-    record { vars = formed .vars-few; room = omega (arith, room, formed .clauses-few, clauses-length t (b .clauses)) }
+    let few : b .clauses ≤ maxClauses = omega (arith, formed .clauses-few, clauses-length t (b .clauses)) in
+    record { vars = formed .vars-few; few = few; room = omega (arith, room, few) }
 
 pub refused-whole : (bytes : List ℕ) (o : Order) (k : ℕ) → refused k ≡ admit bytes o → Answers bytes o (Refused k)
 unfolding turns

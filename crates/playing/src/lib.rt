@@ -5,9 +5,9 @@ ghost use Prim.Native.Nat.{_≤_};
 ghost use Rattle.words.specs.Words.{members};
 ghost use Rattle.order.specs.Values.{orderOf};
 ghost use Rattle.rows.specs.Rows.{clauseWords, clauses as Clauses};
-ghost use Rattle.turns.specs.Turns.{Answers, given, response as theResponse, responses as theResponses};
+ghost use Rattle.turns.specs.Turns.{Answers, Player.buyer, forces, given, response as theResponse, responses as theResponses};
 ghost use Rattle.turns.specs.Handed.{responseNumber};
-ghost use Rattle.playing.specs.Promises.{winsIn, Held, PlaysBook, Tells, Forced};
+ghost use Rattle.playing.specs.Promises.{winsIn, Playable, Held, PlaysBook, Tells, Forced};
 use book::Book;
 use book::Reading;
 use game::Given;
@@ -18,9 +18,12 @@ use turns::Responses;
 use turns::Turns;
 
 mod game;
+mod narrow;
 
 // The most free options.
 const MAX_FREE: u32 = 12;
+// With fewer options left than this the clauses are not narrowed: there are no more than 32 plays.
+const FEW: u32 = 6;
 
 // Whether the planner can force a plant that keeps every rule and wish, where the buyer and he settle the free options in turn, in ascending number and the buyer first;
 // and his answers to the buyer's two first choices.
@@ -65,7 +68,7 @@ fn play(b: Book, o: Order, t: &[u64]) -> Turns
 
 // Forced or open, with the planner's answers.
 fn tell(t: &[u64], g: Given, free: u64) -> Turns
-    requires { ⌜ clauseWords (g .clauses) ≤ length (now t) ⌝ }
+    requires { ⌜ Playable g (now t) ⌝ }
     ensures { λ r. ⌜ Tells (winsIn (now (t .entry)) g) free (g .order .pos) r ⌝ }
 {
     let r = responses(t, g, free);
@@ -77,7 +80,7 @@ fn tell(t: &[u64], g: Given, free: u64) -> Turns
 
 // The planner's answers to the buyer's two choices on the first free option.
 fn responses(t: &[u64], g: Given, free: u64) -> Responses
-    requires { ⌜ clauseWords (g .clauses) ≤ length (now t) ⌝ }
+    requires { ⌜ Playable g (now t) ⌝ }
     ensures { λ r. ⌜ r ≡ theResponses (winsIn (now (t .entry)) g) (members free) (g .order .pos) ⌝ }
 {
     if free == 0 {
@@ -96,7 +99,7 @@ fn responses(t: &[u64], g: Given, free: u64) -> Responses
 
 // The planner's answer on the first of the options that are left.
 fn respond(t: &[u64], g: Given, free: u64, fitted: u64) -> Response
-    requires { ⌜ clauseWords (g .clauses) ≤ length (now t) ⌝ }
+    requires { ⌜ Playable g (now t) ⌝ }
     ensures { λ r. ⌜ r ≡ theResponse (winsIn (now (t .entry)) g) (members free) fitted ⌝ }
 {
     if free == 0 {
@@ -104,13 +107,27 @@ fn respond(t: &[u64], g: Given, free: u64, fitted: u64) -> Response
     }
     let option = words::lowest_of(free);
     let rest = words::rest_of(free);
-    if game::buyer(t, g, rest, fitted) {
+    if serves(t, g, rest, fitted) {
         return Response::Out;
     }
-    if game::buyer(t, g, rest, fitted | option) {
+    if serves(t, g, rest, fitted | option) {
         return Response::Fitted;
     }
     Response::None
+}
+
+// Whether the planner can force it from the buyer's turn on. Where there are more than a few plays, the clauses that are kept by now are left aside.
+fn serves(t: &[u64], g: Given, left: u64, fitted: u64) -> bool
+    requires { ⌜ Playable g (now t) ⌝ }
+    ensures { λ r. ⌜ r ≡ forces (winsIn (now (t .entry)) g) buyer (members left) fitted ⌝ }
+{
+    if words::count_of(left) < FEW {
+        return game::buyer(t, g, left, fitted);
+    }
+    let mut u = [0u64; table::WORDS * Book::MAX_CLAUSES];
+    let clauses = narrow::narrow(t, g.clauses, left, fitted, &mut u);
+    let order = g.order;
+    game::buyer(&u, Given { clauses, order }, left, fitted)
 }
 
 // Whether the planner can force it, where `r` has his answers. With two free options or more he can exactly if he has both answers.

@@ -26,7 +26,8 @@ use Rattle.contract.specs.Filled.{answerOf}
 use Rattle.contract.proofs.Demands as contract
 use Rattle.turns.specs.Turns.{Player.buyer, settled, wins, forces, given, response, responses}
 use Rattle.turns.specs.Handed.{Places, places, responseNumber, numberOf, placesIn}
-use Rattle.turns.specs.Demands.{Free, freeOptions, turnsConditions, IsForced, CanForceFrom, CanForce, EveryPlay, Forces, Forcing, NoneFree, NeverCannot, answerTo, afterTwo, RightResponse, Responding, NoSecond, BothAnswers, Stands, Hold, Taking, Demands}
+use Rattle.turns.specs.Meaning.{Free, CanForceFrom}
+use Rattle.turns.specs.Demands.{freeOptions, turnsConditions, IsForced, CanForce, EveryPlay, Forces, Forcing, NoneFree, NeverCannot, answerTo, afterTwo, RightResponse, Responding, NoSecond, BothAnswers, Stands, Hold, Taking, Demands}
 use Rattle.turns.specs.declared.Responses.{Responses}
 use Rattle.turns.specs.declared.Response.{Response}
 use Rattle.turns.specs.declared.Response.the-variants.{Out, Fitted, None}

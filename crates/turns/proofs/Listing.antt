@@ -12,7 +12,8 @@ use Rattle.order.specs.Order.{Order, free}
 use Rattle.order.proofs.Demands.{free-options as free-words}
 use Rattle.book.proofs.UnitClauses.{length-members}
 use Rattle.turns.specs.Turns.{inTurn}
-use Rattle.turns.specs.Demands.{Free, FreeOptions}
+use Rattle.turns.specs.Meaning.{Free}
+use Rattle.turns.specs.Demands.{FreeOptions}
 
 pub is-free : (n : ℕ) (o : Order) (k : ℕ) → (has (free n o) k ≡ true) ↔ Free n o k
 is-free n o k = (

@@ -12,7 +12,7 @@ use Rattle.words.proofs.Truth.{both-ways, refuted}
 use Rattle.words.proofs.Sets.{within-antisym, within-zero, and-within-r, and-whole, lt-within}
 use Rattle.order.specs.Order.{Order, complete, free}
 use Rattle.turns.specs.Turns.{settled}
-use Rattle.turns.specs.Demands.{Free, lower, Planners, Buyers, Way, ComesOut, Play}
+use Rattle.turns.specs.Meaning.{Free, lower, Planners, Buyers, Way, ComesOut, Play}
 use Rattle.turns.proofs.Listing.{is-free}
 use Rattle.turns.proofs.Rounds.{lower-next, settled-other, settled-at}
 use Rattle.turns.proofs.Ways.{not-free, option-of, SoFar, Reached, pass-on, settle-next, comes-out}

@@ -19,7 +19,7 @@ use Rattle.words.proofs.Unions.{meets-bit}
 use Rattle.words.proofs.Lowest.{lowest-is, members-zero, members-step}
 use Rattle.words.proofs.Count.{ones-zero, ones-bit, ones-disjoint}
 use Rattle.turns.specs.Turns.{Player, Player.buyer, Player.planner, settled, forces}
-use Rattle.turns.specs.Demands.{lower}
+use Rattle.turns.specs.Meaning.{lower}
 use Rattle.turns.proofs.Turning.{forces-end, forces-buyer, forces-planner}
 
 -- ---- the options below option j + 1, and those from it on

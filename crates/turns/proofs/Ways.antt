@@ -19,7 +19,7 @@ use Rattle.steps.specs.Clause.{Clause}
 use Rattle.steps.specs.Meaning.{Builds}
 use Rattle.order.specs.Order.{Order, complete, free}
 use Rattle.turns.specs.Turns.{settled, wins, forces}
-use Rattle.turns.specs.Demands.{Free, lower, Planners, Way, ComesOut, CanForceFrom}
+use Rattle.turns.specs.Meaning.{Free, lower, Planners, Way, ComesOut, CanForceFrom}
 use Rattle.turns.proofs.Listing.{is-free}
 use Rattle.turns.proofs.Turning.{wins-builds, settled-within}
 use Rattle.turns.proofs.Rounds.{below, below-lt, lower-next, settled-other, settled-at, settled-lower, turnAt, forcedFrom, passed, buyers, planners, ended}

@@ -1,17 +1,14 @@
 -- The demands on options that are settled in turn, each as a named type that is proved in `proofs/`. The record at the end has them all; docs/STEPS.md says how to read
 -- the signs. `turns bytes o` is the definition, for book bytes and an order: forced or open, with the planner's two answers, or a refusal. Bytes and words are any
--- numbers. Option k + 1 stands at bit k. What book and order mean is said in crate `steps`, and what a check is in crate `contract`.
+-- numbers. Option k + 1 stands at bit k. What it is that the planner can force it is said in `Meaning`, what book and order mean in crate `steps`, and what a check is in crate `contract`.
 use mathlib.Core.Path.{_≡_}
 use mathlib.Core.Bool.{Bool, true, false}
 use mathlib.Core.List.{List, [], _∷_, _++_}
 use mathlib.Core.Logic.{_⊎_, _↔_}
 use Prim.Native.Nat.{ℕ, suc, _^_, _≤_, _<_}
-use lib.Bits.{bitAnd}
 use lib.Count.{ones}
 use lib.ListN.{length}
-use Rattle.words.specs.Words.{has, odd, firstOf}
 use Rattle.words.specs.Demands.{LowestFirst}
-use Rattle.steps.specs.Clause.{Clause}
 use Rattle.steps.specs.Meaning.{Builds, obeys}
 use Rattle.steps.specs.Marked.{clause}
 use Rattle.order.specs.Order.{Order, complete, free}
@@ -24,19 +21,13 @@ use Rattle.contract.specs.Check.{Lengths}
 use Rattle.contract.specs.Demands.{answer}
 use Rattle.turns.specs.Turns.{Player, Player.buyer, Player.planner, settled, inTurn, turns}
 use Rattle.turns.specs.Handed.{Places, Hands}
+use Rattle.turns.specs.Meaning.{Free, Way, Play, CanForceFrom}
 use Rattle.turns.specs.declared.Response.{Response}
 use Rattle.turns.specs.declared.Response.the-variants.{Out, Fitted, None}
 use Rattle.turns.specs.declared.Responses.{Responses}
 use Rattle.turns.specs.declared.Turns.the-variants.{Forced, Open, Refused}
 
 -- ---- the free options
-
--- option k + 1 is free: one of the n, and neither wanted nor unwanted nor standard. A standard option is unwanted, or else wanted in the completed order
-pub record Free (n : ℕ) (o : Order) (k : ℕ) : Type 0 where
-  pub option : k < n
-  pub not-wanted : has (o .wanted) k ≡ false
-  pub not-unwanted : has (o .unwanted) k ≡ false
-  pub not-standard : has (o .standard) k ≡ false
 
 -- the words of the options that are settled, the first one first
 abbrev pub freeOptions : List ℕ → Order → List ℕ
@@ -75,49 +66,11 @@ Refusals = (bytes : List ℕ) (o : Order) → RefusedOrPlayed bytes o
 abbrev pub NamedRefusal : Type 0
 NamedRefusal = (bytes : List ℕ) (o : Order) (k : ℕ) → turns bytes o ≡ Refused k → (((1 ≤ k) × (k ≤ 8)) ⊎ (k ≡ 12)) ⊎ (k ≡ 16)
 
--- ---- who settles what
-
--- the options of x below option k + 1
-abbrev pub lower : ℕ → ℕ → ℕ
-lower k x = bitAnd x (firstOf k)
-
--- option k + 1 is the planner's to settle: it is free, and the free options below it are odd in number, for the buyer begins
-pub record Planners (n : ℕ) (o : Order) (k : ℕ) : Type 0 where
-  pub is-free : Free n o k
-  pub turn : odd (ones (lower k (free n o))) ≡ true
-
--- a way of answering: whether the planner fits option k + 1, by k and by what is fitted below it
-abbrev pub Way : Type 0
-Way = ℕ → ℕ → Bool
-
--- the choice x comes out where the options below option j + 1 stand as in y, the planner settles his later ones by the way, and the buyer settles his as he likes. An
--- option that is not free stands as the completed order has it
-pub record ComesOut (n : ℕ) (o : Order) (way : Way) (j y x : ℕ) : Type 0 where
-  pub choice : x < 2 ^ n
-  pub so-far : (k : ℕ) → k < j → has x k ≡ has y k
-  pub fixed : (k : ℕ) → k < n → (Free n o k → ⊥) → has x k ≡ has (complete o .pos) k
-  pub answered : (k : ℕ) → j ≤ k → Planners n o k → has x k ≡ way k (lower k x)
-
--- option k + 1 is the buyer's to settle
-pub record Buyers (n : ℕ) (o : Order) (k : ℕ) : Type 0 where
-  pub is-free : Free n o k
-  pub turn : odd (ones (lower k (free n o))) ≡ false
-
--- the choice x comes out of a whole play with what the buyer says of his options, and no other does
-pub record Play (n : ℕ) (o : Order) (way : Way) (says : ℕ → Bool) (x : ℕ) : Type 0 where
-  pub comes-out : ComesOut n o way 0 0 x
-  pub said : (k : ℕ) → Buyers n o k → has x k ≡ says k
-  pub only : (z : ℕ) → ComesOut n o way 0 0 z → ((k : ℕ) → Buyers n o k → has z k ≡ says k) → z ≡ x
-
--- from there on the planner can force it: there is a way of answering such that every choice that comes out keeps every rule and every wish
-abbrev pub CanForceFrom : ℕ → List Clause → Order → ℕ → ℕ → Type 0
-CanForceFrom n rules o j y = (way : Way) × ((x : ℕ) → ComesOut n o way j y x → Builds n rules (complete o) x)
+-- ---- forced or open
 
 -- from the start on: nothing is settled
 abbrev pub CanForce : List ℕ → Order → Type 0
 CanForce bytes o = CanForceFrom (varsIn bytes) (rulesIn bytes) o 0 0
-
--- ---- forced or open
 
 -- whatever way the planner answers and whatever the buyer says, one choice comes out
 abbrev pub EveryPlay : Type 0
@@ -235,6 +188,10 @@ pub record Examples : Type 0 where
   -- a rule of option 1 alone: it is the buyer's to keep. A rule of option 2 alone is the planner's
   pub the-buyers : turns (encode 2 (clause 1 0 ∷ [])) noWishes ≡ Open (answers None Out)
   pub the-planners : turns (encode 2 (clause 2 0 ∷ [])) noWishes ≡ Forced (answers Fitted Fitted)
+  -- the buyer keeps "not 1", and the planner "2"; or both keep "1" and "2"
+  pub not-the-buyers : turns (encode 2 (clause 0 1 ∷ [])) noWishes ≡ Open (answers Out None)
+  pub one-of-both : turns (encode 2 (clause 0 1 ∷ clause 2 0 ∷ [])) noWishes ≡ Open (answers Fitted None)
+  pub of-both : turns (encode 2 (clause 1 0 ∷ clause 2 0 ∷ [])) noWishes ≡ Open (answers None Fitted)
   -- both answers serve
   pub either : turns (encode 2 []) noWishes ≡ Forced (answers Out Out)
   -- option 1 is wanted, so option 2 is the buyer's and option 3 the planner's: "2 or 3"

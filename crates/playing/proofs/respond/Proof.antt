@@ -15,29 +15,29 @@ lowest-of-requires c κs = search needs
 rest-of-requires : tie.Need-rest-of-requires
 rest-of-requires c κs = search needs
 
-buyer-requires : tie.Need-buyer-requires
-buyer-requires c κs = search needs
+serves-requires : tie.Need-serves-requires
+serves-requires c κs = search needs
 
 returns-2 : tie.Need-returns-2
 returns-2 c =
     let asked = c .before in
     let rest = asked .before in
-    answers-out _ (rest .before .lowest-of .result) _ (rest .before .before .if1 .left) (rest .before .lowest-of .ensures) (rest .rest-of .ensures) _ _ _ (asked .buyer .ensures) (c .if2 .taken)
+    answers-out _ (rest .before .lowest-of .result) _ (rest .before .before .if1 .left) (rest .before .lowest-of .ensures) (rest .rest-of .ensures) _ _ _ (asked .serves .ensures) (c .if2 .taken)
 
-buyer-requires-2 : tie.Need-buyer-requires-2
-buyer-requires-2 c κs = search needs
+serves-requires-2 : tie.Need-serves-requires-2
+serves-requires-2 c κs = search needs
 
 returns-3 : tie.Need-returns-3
 returns-3 c =
     let asked = c .before .before .before in
     let rest = asked .before in
-    answers-then _ (rest .before .lowest-of .result) _ (rest .before .before .if1 .left) (rest .before .lowest-of .ensures) (rest .rest-of .ensures) _ _ _ (asked .buyer .ensures) (c .before .before .if2 .left) true (sym (c .if3 .taken) ∙ c .before .buyer2 .ensures)
+    answers-then _ (rest .before .lowest-of .result) _ (rest .before .before .if1 .left) (rest .before .lowest-of .ensures) (rest .rest-of .ensures) _ _ _ (asked .serves .ensures) (c .before .before .if2 .left) true (sym (c .if3 .taken) ∙ c .before .serves2 .ensures)
 
 returns-4 : tie.Need-returns-4
 returns-4 c =
     let asked = c .before .before .before in
     let rest = asked .before in
-    answers-then _ (rest .before .lowest-of .result) _ (rest .before .before .if1 .left) (rest .before .lowest-of .ensures) (rest .rest-of .ensures) _ _ _ (asked .buyer .ensures) (c .before .before .if2 .left) false (sym (c .if3 .left) ∙ c .before .buyer2 .ensures)
+    answers-then _ (rest .before .lowest-of .result) _ (rest .before .before .if1 .left) (rest .before .lowest-of .ensures) (rest .rest-of .ensures) _ _ _ (asked .serves .ensures) (c .before .before .if2 .left) false (sym (c .if3 .left) ∙ c .before .serves2 .ensures)
 
 pub respond-spec : {M : Type 1} → statement M
 respond-spec =
@@ -46,8 +46,8 @@ respond-spec =
     returns
     lowest-of-requires
     rest-of-requires
-    buyer-requires
+    serves-requires
     returns-2
-    buyer-requires-2
+    serves-requires-2
     returns-3
     returns-4)
