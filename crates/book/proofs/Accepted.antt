@@ -19,6 +19,8 @@ use Rattle.book.specs.Limits.{maxVars, maxClauses}
 use Rattle.book.specs.Bytes.{bookBytes, varsIn, countIn, rulesIn}
 use Rattle.book.specs.Refusals.{row, firstRow, ruleRows, bookRows, orderRows, admitRows}
 use Rattle.book.specs.Reading.{Reading.book, Reading.refused, read, admit, readOrder, readTable, WellFormed}
+use Rattle.book.specs.Values.{Held}
+use Rattle.book.specs.declared.Book.{Book}
 use Rattle.book.proofs.Refusals.{first-none, none-here, none-later, first-among, first-after, none-among}
 use Rattle.book.proofs.Tests.{five, six, none-sizes, none-rest, rule-passed}
 use Rattle.book.proofs.Bytes.{length-clausesIn}
@@ -184,6 +186,13 @@ unfolding admit
 admitted-book bytes o n cs e =
     let j = judged-book (firstRow (admitRows bytes o)) (varsIn bytes) n (rulesIn bytes) cs (sym e) in
     said (Admitted bytes o) (varsIn bytes) n (rulesIn bytes) cs (j .1) (j .2) (none-admitted bytes o (j .0))
+
+-- and the book stands in a table that has room for the largest
+pub held : (bytes : List ℕ) (o : Order) (b : Book) (t : List ℕ) → clauseWords maxClauses ≤ length t → book (b .vars) (clauses t (b .clauses)) ≡ admit bytes o → Held b t
+held bytes o b t room e =
+    let formed = admitted-book bytes o (b .vars) (clauses t (b .clauses)) e .well-formed in
+    let few : b .clauses ≤ maxClauses = omega (arith, formed .clauses-few, clauses-length t (b .clauses)) in
+    record { vars = formed .vars-few; few = few; room = omega (arith, room, few) }
 
 -- `admit` answers with a refusal
 pub admitted-row : (bytes : List ℕ) (o : Order) (k : ℕ) → refused k ≡ admit bytes o → firstRow (admitRows bytes o) ≡ some k

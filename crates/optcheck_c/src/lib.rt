@@ -1,4 +1,4 @@
-// The check, the page, the morning, open options, the terminal, the desk, joined books and turns for C and Rust: exported functions on numbers and slices (rust/optcheck/include/optcheck.h is their header).
+// The check, the page, the morning, open options, the terminal, the desk, joined books, turns and the cheapest plant for C and Rust: exported functions on numbers and slices (rust/optcheck/include/optcheck.h is their header).
 ghost use Rattle.contract.specs.Filled.{lent};
 ghost use Rattle.page.specs.Filed.{Filed};
 ghost use Rattle.morning.specs.Morning.{Serves};
@@ -7,7 +7,9 @@ ghost use Rattle.sites.specs.Handed.{terminalOf, HandsOpening, HandsSite};
 ghost use Rattle.drafts.specs.Desk.{Makes, Alters, Call.set, Call.clear, Call.keep, Call.return};
 ghost use Rattle.joint.specs.Handed.{Hands};
 ghost use Rattle.turns.specs.Handed.{places, Hands as HandsTurns};
+ghost use Rattle.cheapest.specs.Handed.{places as placesOf, Hands as HandsCheapest};
 ghost use Rattle.optcheck_c.specs.Exported.{Exported};
+use cheapest::Cheapest;
 use drafts::Desk;
 use joint::Joined;
 use order::Order;
@@ -284,6 +286,47 @@ pub extern "C" fn optcheck_turns(
             let to_fitted = r.fitted;
             *out = playing::number_of(to_out);
             *fitted = playing::number_of(to_fitted);
+            0
+        }
+    }
+}
+
+// Finds the cheapest plant (crate `pricing`): 0, and `can` is 1 and the other places have its list total, the amount due on it and the choice, or all four are 0 where none can
+// be built; or the number of a refusal, and nothing is changed.
+#[no_mangle]
+pub extern "C" fn optcheck_cheapest(
+    book: &[u8],
+    wanted: u64,
+    unwanted: u64,
+    standard: u64,
+    prices: &[u64],
+    rebate: u64,
+    can: &mut u32,
+    total: &mut u64,
+    due: &mut u64,
+    choice: &mut u64,
+) -> u32
+    ensures { λ r. ⌜ HandsCheapest (now (book .entry)) (record { wanted = wanted; unwanted = unwanted; standard = standard }) (record { prices = now (prices .entry); rebate = rebate }) (placesOf (now (can .entry)) (now (total .entry)) (now (due .entry)) (now (choice .entry))) r (placesOf (now (can .exit)) (now (total .exit)) (now (due .exit)) (now (choice .exit))) ⌝ }
+{
+    let order = Order {
+        wanted,
+        unwanted,
+        standard,
+    };
+    match pricing::cheapest(book, order, prices, rebate) {
+        Cheapest::Refused(k) => k,
+        Cheapest::Cannot => {
+            *can = 0;
+            *total = 0;
+            *due = 0;
+            *choice = 0;
+            0
+        }
+        Cheapest::Can(q) => {
+            *can = 1;
+            *total = q.total;
+            *due = q.due;
+            *choice = q.choice;
             0
         }
     }

@@ -1,6 +1,7 @@
 // An order as a caller gives it, and the order that it is completed to.
 ghost use mathlib.Core.Path.{_≡_};
-ghost use Rattle.order.specs.Order.{complete as Complete};
+ghost use Prim.Native.Nat.{_≤_};
+ghost use Rattle.order.specs.Order.{complete as Complete, free as Free};
 ghost use Rattle.order.specs.Values.{assumptionsOf, orderOf};
 
 // An order: the wanted options, the unwanted ones, and the standard ones, which come unless they are unwanted.
@@ -25,5 +26,14 @@ impl Order {
             pos: self.wanted | words::minus(self.standard, self.unwanted),
             neg: self.unwanted,
         }
+    }
+
+    // The free options among the first `vars`.
+    pub fn free(self, vars: u32) -> u64
+        requires { ⌜ vars ≤ 64 ⌝ }
+        ensures { λ r. ⌜ r ≡ Free vars (orderOf self) ⌝ }
+    {
+        let order = self.complete();
+        words::minus(words::first_of(vars), order.pos | order.neg)
     }
 }

@@ -1,22 +1,17 @@
--- A book that was admitted with its order, played: the free options that the code works out are those of the order, and what it answers is 16 or what the turns come to.
+-- A book that was admitted with its order, played: what is answered is 16, or what the turns come to.
 use mathlib.Core.Path.{_≡_, refl, sym, ap, ap₂, _∙_}
 use mathlib.Core.Bool.{Bool, true, false, _&&_}
 use mathlib.Core.List.{List, [], _∷_}
-use Prim.Native.Nat.{ℕ, min, _≤_, _<_}
-use native.Mathlib.Nat.{min-eq-left}
+use Prim.Native.Nat.{ℕ, _≤_, _<_}
 use native.Mathlib.Omega.{arith}
 use borrow.Author.Tests.{lt-ltb, le-ltb}
-use lib.Bits.{bitOr}
 use lib.Count.{ones}
 use lib.Dec.{ltb}
 use lib.ListN.{length}
-use Rattle.words.specs.Words.{firstOf, minus, members}
+use Rattle.words.specs.Words.{members}
 use Rattle.steps.specs.Clause.{Clause}
-use Rattle.steps.specs.Run.{Assumptions}
 use Rattle.order.specs.Order.{Order, complete, free}
-use Rattle.rows.specs.Rows.{clauseWords, clauses}
-use Rattle.rows.proofs.Tables.{clauses-length}
-use Rattle.book.specs.Limits.{maxVars, maxClauses}
+use Rattle.rows.specs.Rows.{clauses}
 use Rattle.book.specs.Bytes.{varsIn, rulesIn}
 use Rattle.book.specs.Refusals.{row, firstRow, admitRows}
 use Rattle.book.specs.Reading.{Reading.book, Reading.refused, admit}
@@ -29,14 +24,9 @@ use Rattle.turns.specs.declared.Responses.{Responses}
 use Rattle.turns.specs.declared.Turns.{Turns}
 use Rattle.turns.specs.declared.Turns.the-variants.{Forced, Open, Refused}
 use Rattle.turns.proofs.Turning.{both-given}
-use Rattle.playing.specs.Promises.{Held, PlaysBook, Tells, Forced as IsForced}
+use Rattle.playing.specs.Promises.{PlaysBook, Tells, Forced as IsForced}
 
--- ---- the free options
-
--- as the code works them out
-pub free-is : (n : ℕ) (o : Order) (a : Assumptions) (first left : ℕ) → n ≤ maxVars → a ≡ complete o → first ≡ firstOf (min n 64) → left ≡ minus first (bitOr (a .pos) (a .neg)) → left ≡ free n o
-unfolding free
-free-is n o a first left few ea ef el = el ∙ ap₂ minus (ef ∙ ap firstOf (min-eq-left few)) (ap (λ w. bitOr (w .pos) (w .neg)) ea)
+-- ---- 16, and else the turns
 
 module _ (n : ℕ) (cs : List Clause) (o : Order) (left count : ℕ) (el : left ≡ free n o) (ec : count ≡ ones left) where
   counted : ltb maxFree count ≡ ltb maxFree (ones (free n o))
@@ -86,12 +76,6 @@ module _ (won : ℕ → Bool) (left x count : ℕ) (a : Responses) (ec : count �
   one-given p ep e q eq = record { forced = eq ∙ sym (by-answers ∙ ap (λ b. b && given (a .fitted)) (sym ep ∙ e)) }
 
 -- ---- the book
-
-pub held : (bytes : List ℕ) (o : Order) (b : Book) (t : List ℕ) → clauseWords maxClauses ≤ length t → book (b .vars) (clauses t (b .clauses)) ≡ admit bytes o → Held b t
-held bytes o b t room e =
-    let formed = admitted-book bytes o (b .vars) (clauses t (b .clauses)) e .well-formed in
-    let few : b .clauses ≤ maxClauses = omega (arith, formed .clauses-few, clauses-length t (b .clauses)) in
-    record { vars = formed .vars-few; few = few; room = omega (arith, room, few) }
 
 pub refused-whole : (bytes : List ℕ) (o : Order) (k : ℕ) → refused k ≡ admit bytes o → Answers bytes o (Refused k)
 unfolding turns

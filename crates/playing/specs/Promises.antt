@@ -1,19 +1,16 @@
 -- What the functions under the entry point ask and promise.
 use mathlib.Core.Path.{_≡_}
-use mathlib.Core.Bool.{Bool, not}
+use mathlib.Core.Bool.{Bool}
 use mathlib.Core.List.{List}
 use Prim.Native.Nat.{ℕ, _≤_}
-use lib.Bits.{bitAnd, bitOr}
 use lib.ListN.{length}
-use Rattle.words.specs.Words.{isZero, minus, members}
-use Rattle.steps.specs.Lists.{filter}
+use Rattle.words.specs.Words.{members}
 use Rattle.steps.specs.Clause.{Clause}
 use Rattle.order.specs.Order.{Order}
 use Rattle.order.specs.Values.{assumptionsOf}
 use Rattle.rows.specs.Rows.{clauseWords, clauses}
-use Rattle.book.specs.Limits.{maxVars, maxClauses}
+use Rattle.book.specs.Limits.{maxClauses}
 use Rattle.book.specs.Refusals.{firstRow}
-use Rattle.book.specs.declared.Book.{Book}
 use Rattle.turns.specs.Turns.{freeRows, Player.buyer, wins, forces, responses, told, answeredBy}
 use Rattle.turns.specs.declared.Turns.{Turns}
 use Rattle.playing.specs.declared.game.Given.{Given}
@@ -26,21 +23,6 @@ winsIn t g = wins (clauses t (g .clauses)) (assumptionsOf (g .order))
 pub record Playable (g : Given) (t : List ℕ) : Type 0 where
   pub few : g .clauses ≤ maxClauses
   pub room : clauseWords (g .clauses) ≤ length t
-
--- a settled option keeps the clause, where the options `left` are still to settle
-unfoldable pub isKept : ℕ → ℕ → Clause → Bool
-isKept left fitted c = not (isZero (bitOr (bitAnd (c .pos) fitted) (minus (c .neg) (bitOr left fitted))))
-
--- the open ones among some clauses
-pub record Narrowed (left fitted : ℕ) (cs opens : List Clause) : Type 0 where
-  pub are : opens ≡ filter (λ c. not (isKept left fitted c)) cs
-  pub few : length opens ≤ length cs
-
--- a book that was read into a work table
-pub record Held (b : Book) (t : List ℕ) : Type 0 where
-  pub vars : b .vars ≤ maxVars
-  pub few : b .clauses ≤ maxClauses
-  pub room : clauseWords (b .clauses) ≤ length t
 
 -- the book was admitted with its order: 16, and else the answer
 pub record PlaysBook (n : ℕ) (cs : List Clause) (o : Order) (r : Turns) : Type 0 where

@@ -5,9 +5,10 @@ ghost use Prim.Native.Nat.{_≤_};
 ghost use Rattle.words.specs.Words.{members};
 ghost use Rattle.order.specs.Values.{orderOf};
 ghost use Rattle.rows.specs.Rows.{clauseWords, clauses as Clauses};
+ghost use Rattle.book.specs.Values.{Held};
 ghost use Rattle.turns.specs.Turns.{Answers, Player.buyer, forces, given, response as theResponse, responses as theResponses};
 ghost use Rattle.turns.specs.Handed.{responseNumber};
-ghost use Rattle.playing.specs.Promises.{winsIn, Playable, Held, PlaysBook, Tells, Forced};
+ghost use Rattle.playing.specs.Promises.{winsIn, Playable, PlaysBook, Tells, Forced};
 use book::Book;
 use book::Reading;
 use game::Given;
@@ -18,7 +19,6 @@ use turns::Responses;
 use turns::Turns;
 
 mod game;
-mod narrow;
 
 // The most free options.
 const MAX_FREE: u32 = 12;
@@ -55,7 +55,7 @@ fn play(b: Book, o: Order, t: &[u64]) -> Turns
     ensures { λ r. ⌜ PlaysBook (b .vars) (Clauses (now (t .entry)) (b .clauses)) (orderOf o) r ⌝ }
 {
     let order = o.complete();
-    let free = words::minus(words::first_of(b.vars), order.pos | order.neg);
+    let free = o.free(b.vars);
     if MAX_FREE < words::count_of(free) {
         return Turns::Refused(16);
     }
@@ -125,7 +125,7 @@ fn serves(t: &[u64], g: Given, left: u64, fitted: u64) -> bool
         return game::buyer(t, g, left, fitted);
     }
     let mut u = [0u64; table::WORDS * Book::MAX_CLAUSES];
-    let clauses = narrow::narrow(t, g.clauses, left, fitted, &mut u);
+    let clauses = narrowing::narrow(t, g.clauses, left, fitted, &mut u);
     let order = g.order;
     game::buyer(&u, Given { clauses, order }, left, fitted)
 }

@@ -5,5 +5,6 @@ pub mod Sets
 pub mod Unions
 pub mod Lowest
 pub mod Count
+pub mod Highest
 pub mod Demands
 pub mod Shift

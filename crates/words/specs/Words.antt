@@ -2,7 +2,7 @@
 use mathlib.Core.Path.{_≡_}
 use mathlib.Core.Bool.{Bool, true, false, not}
 use mathlib.Core.List.{List, [], _∷_}
-use Prim.Native.Nat.{ℕ, zero, suc, _-_, _/_, _%_, _^_}
+use Prim.Native.Nat.{ℕ, zero, suc, _-_, _/_, _%_, _^_, _<_}
 use lib.Bits.{bitAnd}
 
 abbrev pub isZero : ℕ → Bool
@@ -38,6 +38,11 @@ firstOf n = 2 ^ n - 1
 unfoldable pub lowest : ℕ → ℕ
 unfolding minus
 lowest x = minus x (x - 1)
+
+-- k is the number of the highest member of x: it is a member, and none above it is
+pub record Highest (x k : ℕ) : Type 0 where
+  pub member : has x k ≡ true
+  pub none-above : (j : ℕ) → k < j → has x j ≡ false
 
 -- the members of x, each as a word of one variable, lowest first: at most k of them
 unfoldable pub membersUpTo : ℕ → ℕ → List ℕ

@@ -3,13 +3,21 @@
 ghost use mathlib.Core.Path.{_≡_};
 ghost use Prim.Native.Nat.{min, _^_, _<_};
 ghost use lib.Count.{ones, trailingZeros};
-ghost use Rattle.words.specs.Words.{digit, has, lowest, minus, meets, firstOf};
+ghost use Rattle.words.specs.Words.{digit, has, lowest, Highest, minus, meets, firstOf};
 
 // The number of the lowest member of x, and 64 where x is empty.
 pub fn lowest_var(x: u64) -> u32
     ensures { λ r. ⌜ r ≡ trailingZeros 64 x ⌝ }
 {
     u64::trailing_zeros(x)
+}
+
+// The number of the highest member of x.
+pub fn highest_var(x: u64) -> u32
+    requires { ⌜ 0 < x ⌝ }
+    ensures { λ r. ⌜ Highest x r ⌝ }
+{
+    63 - u64::leading_zeros(x)
 }
 
 // The word of the variable of number k.

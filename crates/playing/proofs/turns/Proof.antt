@@ -6,7 +6,8 @@ use Rattle.rows.specs.Rows.{clauses}
 use Rattle.order.specs.Values.{orderOf}
 use Rattle.book.specs.Reading.{Reading.book, admit}
 use Rattle.book.specs.Values.{readingOf}
-use Rattle.playing.proofs.Played.{held, refused-whole, played-whole}
+use Rattle.book.proofs.Accepted.{held}
+use Rattle.playing.proofs.Played.{refused-whole, played-whole}
 use Rattle.playing.proofs.turns.Statement.{statement}
 use Rattle.playing.proofs.turns.Tie as tie
 

@@ -1,9 +1,9 @@
--- `playing::narrow::is_kept` meets its contract: the two words are not both empty. Assumes nothing.
+-- `narrowing::is_kept` meets its contract: the two words are not both empty. Assumes nothing.
 use borrow.Author.Needs.{needs}
 use Rattle.rows.specs.Values.{clauseOf}
-use Rattle.playing.proofs.Opens.{kept-by-now}
-use Rattle.playing.proofs.narrow.is_kept.Statement.{statement}
-use Rattle.playing.proofs.narrow.is_kept.Tie as tie
+use Rattle.narrowing.proofs.Opens.{kept-by-now}
+use Rattle.narrowing.proofs.is_kept.Statement.{statement}
+use Rattle.narrowing.proofs.is_kept.Tie as tie
 
 minus-requires : tie.Need-minus-requires
 minus-requires c κs = search needs

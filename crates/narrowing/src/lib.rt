@@ -1,10 +1,11 @@
-// The clauses that are still open: those that no settled option keeps. A book that is narrowed to them once is sooner gone through, choice by choice.
+// The clauses that are still open: those that no settled option keeps. A book that is narrowed to them once is sooner gone through, choice by choice. Both functions are
+// public for the crates that go through choices; their callers see to what `narrow` asks.
 ghost use mathlib.Core.Path.{_≡_};
 ghost use Prim.Native.Nat.{_≤_};
 ghost use lib.ListN.{length};
 ghost use Rattle.rows.specs.Rows.{clauseWords, clauses as Clauses};
 ghost use Rattle.rows.specs.Values.{clauseOf};
-ghost use Rattle.playing.specs.Promises.{isKept, Narrowed};
+ghost use Rattle.narrowing.specs.Narrowing.{isKept, Narrowed};
 use rows::clause::Clause;
 use rows::table;
 
@@ -27,7 +28,7 @@ pub fn narrow(t: &[u64], clauses: usize, left: u64, fitted: u64, u: &mut [u64]) 
 }
 
 // Whether a settled option keeps the clause: it is fitted, or it is left out and not to be settled any more.
-fn is_kept(c: Clause, left: u64, fitted: u64) -> bool
+pub fn is_kept(c: Clause, left: u64, fitted: u64) -> bool
     ensures { λ r. ⌜ r ≡ isKept left fitted (clauseOf c) ⌝ }
 {
     ((c.pos & fitted) | words::minus(c.neg, left | fitted)) != 0

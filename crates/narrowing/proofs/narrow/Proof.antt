@@ -1,13 +1,13 @@
--- `playing::narrow::narrow` meets its contract. The loop's invariant: of the first i clauses the open ones stand in the table. The measure is how many are left. Assumes nothing.
+-- `narrowing::narrow` meets its contract. The loop's invariant: of the first i clauses the open ones stand in the table. The measure is how many are left. Assumes nothing.
 use mathlib.Core.Path.{_∙_}
 use mathlib.Core.Logic.{⊎-elim}
 use Prim.Native.Nat.{_-_, _≤_}
 use native.Mathlib.Omega.{arith}
 use borrow.Author.Needs.{needs}
 use borrow.Author.Tests.{not-true, not-false}
-use Rattle.playing.proofs.Opens.{Through, through-none, through-kept, through-open, through-all}
-use Rattle.playing.proofs.narrow.narrow.Statement.{statement}
-use Rattle.playing.proofs.narrow.narrow.Tie as tie
+use Rattle.narrowing.proofs.Opens.{Through, through-none, through-kept, through-open, through-all}
+use Rattle.narrowing.proofs.narrow.Statement.{statement}
+use Rattle.narrowing.proofs.narrow.Tie as tie
 
 abbrev Inv-loop : tie.InvT-loop
 Inv-loop t clauses left fitted u₀ i₀ count₀ u i count = (i ≤ clauses) × Through left fitted t u₀ u i count

@@ -1,0 +1,2 @@
+-- Laws of clauses that are still open.
+pub mod Opens
