@@ -30,7 +30,8 @@ pub fn settings_built(order: Order, open: u64, book: &Book) -> Option<usize> {
     Some(settings.len())
 }
 
-fn meets_order(order: Order, choice: u64) -> bool {
+/// The choice keeps the wishes of a completed order.
+pub fn meets_order(order: Order, choice: u64) -> bool {
     order.wanted & !choice == 0 && order.unwanted & choice == 0
 }
 

@@ -33,6 +33,13 @@ pub fn numbers<T: std::str::FromStr, const N: usize>(text: &str) -> Result<[T; N
     numbers.ok_or(format!("{N} numbers are due, not `{text}`"))
 }
 
+/// Any number of numbers, also none.
+pub fn list<T: std::str::FromStr>(text: &str) -> Result<Vec<T>, String> {
+    let words = text.split(' ').filter(|_| !text.is_empty());
+    let numbers: Option<Vec<T>> = words.map(|word| word.parse().ok()).collect();
+    numbers.ok_or(format!("numbers are due, not `{text}`"))
+}
+
 /// The lengths of the five tables.
 pub fn places(text: &str) -> Result<Places, String> {
     let [pos, neg, decided, trues, redundant] = numbers(text)?;
@@ -65,6 +72,13 @@ mod tests {
         assert_eq!(order("6 7 8"), Ok(due));
         let (order, Places { derived, records }) = order_and_places("6 7 8 1 2 3 4 5").unwrap();
         assert_eq!((order, derived, records), (due, [1, 2], [3, 4, 5]));
+    }
+
+    #[test]
+    fn a_list_has_any_length() {
+        assert_eq!(list("6 7 8"), Ok(vec![6, 7, 8]));
+        assert_eq!(list::<u64>(""), Ok(Vec::new()));
+        assert_eq!(list::<u64>("6  7"), Err("numbers are due, not `6  7`".to_string()));
     }
 
     #[test]

@@ -1,9 +1,11 @@
 //! The proved static library as a checker.
 
-use crate::lent::{desk, join, morning, open, page, sites, terminal, turns, Lent};
+use crate::lent::{cheapest, desk, join, morning, open, page, sites, terminal, turns, Lent};
 use crate::question::{after_text, answers_text, first_difference, in_turn, joined_text};
-use crate::question::{settled_text, state_text, tried_text, Question};
-use crate::question::{Check, Desk, Join, Morning, Open, Page, Sites, State, Terminal, Turns};
+use crate::question::{quoted_text, settled_text, state_text, tried_text, Question};
+use crate::question::{
+    Cheapest, Check, Desk, Join, Morning, Open, Page, Sites, State, Terminal, Turns,
+};
 use crate::under_test::UnderTest;
 use optcheck::{DeskWords, Site};
 use port::{Call, Outcome, Places};
@@ -30,7 +32,8 @@ impl UnderTest for Library {
             | Question::Desk(_)
             | Question::State(_)
             | Question::Join(_)
-            | Question::Turns(_) => true,
+            | Question::Turns(_)
+            | Question::Cheapest(_) => true,
         }
     }
 
@@ -46,6 +49,7 @@ impl UnderTest for Library {
             Question::State(state) => self.state(state),
             Question::Join(join) => self.join(join),
             Question::Turns(turns) => self.turns(turns),
+            Question::Cheapest(cheapest) => self.cheapest(cheapest),
         }
     }
 }
@@ -152,6 +156,14 @@ impl Library {
             optcheck::turns_words(book, *order, forced, to_out, to_fitted)
         })?;
         Ok(settled_text(&settled))
+    }
+
+    fn cheapest(&self, question: &Cheapest) -> Result<String, String> {
+        let Cheapest { book, order, prices, rebate } = question;
+        let quoted = cheapest::lend(self.rubbish, |can, [total, due, choice]| {
+            optcheck::cheapest_words(book, *order, prices, *rebate, can, total, due, choice)
+        })?;
+        Ok(quoted_text(&quoted))
     }
 }
 

@@ -4,11 +4,13 @@
 
 mod allowances;
 mod bench;
+mod cheapest;
 mod choices;
 mod desks;
 mod differential;
 mod fields;
 mod framed;
+mod free;
 mod hex;
 mod in_process;
 mod joins;
@@ -18,6 +20,7 @@ mod lent;
 #[cfg(feature = "proved")]
 mod library;
 mod mornings;
+mod optimiser;
 mod orders;
 mod outside;
 mod pages;
@@ -33,6 +36,7 @@ mod undecided;
 mod under_test;
 mod vectors;
 
+use optimiser::Optimiser;
 use outside::Solver;
 use std::time::Instant;
 use std::{env, fs, process};
@@ -40,8 +44,8 @@ use under_test::{Port, Program, UnderTest};
 
 const USAGE: &str = "\
 compare differential [--program PATH [--page-program PATH]] [--seed S] [--books N] [--solver NAME]
-    generated books, mornings, open options, sites, pages, desks, joined books and turns through the
-    checker and the port, each verdict on a book also by an outside solver
+    generated books, mornings, open options, sites, pages, desks, joined books, turns and cheapest plants
+    through the checker and the port, each verdict on a book also by an outside solver
 compare vectors FILE... [--program PATH [--page-program PATH]]
     the cases of these files through the checker and the port
 compare allowances
@@ -52,19 +56,19 @@ compare framed FILE... FOLDER
     the programs' cases of these files as the test program `vectors` reads and writes them, in FOLDER
 compare bench [--seed S] [--solver NAME]
     the same books through the checker, the port and outside solvers, mornings, open options and sites
-    beside single checks, and turns, as tables
+    beside single checks, turns, and cheapest plants, as tables
 
 The checker is the program at PATH, with the one that prints pages, or, where compare is built with the
 feature `proved`, the library.
 The outside solver is the first installed of minisat, cadical and picosat, if NAME does not say; of turns
-it is depqbf, where it is installed.
+it is depqbf, and of cheapest plants clasp, where they are installed.
 ";
 
 const SEED: u64 = 1;
 const BOOKS: usize = 4000;
 
 /// What the lent tables hold before a run; for mornings, open options, sites, pages and desks, its complement
-/// in turn with it; for joined books and turns both, one after the other.
+/// in turn with it; for joined books, turns and cheapest plants both, one after the other.
 const RUBBISH: u64 = 0xa5a5_5a5a_a5a5_5a5a;
 
 /// The words of the command line after the subcommand.
@@ -159,6 +163,15 @@ fn differential(words: &Words) -> Result<(), String> {
     if let Some(tally) = turns::run(tested[0].as_mut(), outside, seed, turns::beside(books))? {
         print!("{}", tally.told());
     }
+    let clasp = Optimiser::find();
+    let outside: Result<cheapest::Outside, String> = match &clasp {
+        Ok(optimiser) => Ok(&|constraints| optimiser.least(constraints)),
+        Err(missing) => Err(missing.clone()),
+    };
+    if let Some(tally) = cheapest::run(tested[0].as_mut(), outside, seed, cheapest::beside(books))?
+    {
+        print!("{}", tally.told());
+    }
     println!("no difference, in {:.1} s", start.elapsed().as_secs_f64());
     Ok(())
 }
@@ -166,23 +179,17 @@ fn differential(words: &Words) -> Result<(), String> {
 /// The last line has the counts of all files together; a case that differs is an error.
 fn vectors(words: &Words) -> Result<(), String> {
     let mut tested = [under_test(words, RUBBISH)?, Box::new(Port)];
-    let (mut agree, mut differ, mut skipped) = (0, Vec::new(), 0);
+    let (mut agree, mut differ) = (0, Vec::new());
     for file in &words.files {
         let text = fs::read_to_string(file).map_err(|error| format!("{file}: {error}"))?;
         let (score, told) =
             vectors::run(&mut tested, &text).map_err(|what| format!("{file}: {what}"))?;
-        print!(
-            "{file}: {} agree, {} differ, {} skipped\n{told}",
-            score.agree,
-            score.differ.len(),
-            score.skipped
-        );
+        print!("{file}: {} agree, {} differ\n{told}", score.agree, score.differ.len());
         agree += score.agree;
-        skipped += score.skipped;
         differ.extend(score.differ);
     }
     let checkers = tested.map(|checker| checker.name()).join(", ");
-    println!("{checkers}: {agree} cases agree, {} differ, {skipped} skipped", differ.len());
+    println!("{checkers}: {agree} cases agree, {} differ", differ.len());
     match differ.is_empty() {
         true => Ok(()),
         false => Err(format!("cases that differ: {}", differ.join(", "))),
@@ -229,7 +236,8 @@ fn bench(words: &Words) -> Result<(), String> {
     if let (Err(missing), Some(_)) = (&solver, &words.solver) {
         return Err(missing.clone());
     }
-    bench::run(solver, in_process::all(), Solver::quantified(), words.seed.unwrap_or(SEED))
+    let seed = words.seed.unwrap_or(SEED);
+    bench::run(solver, in_process::all(), Solver::quantified(), Optimiser::find(), seed)
 }
 
 /// The program that was given, else the library, with this rubbish in the tables that it is lent.

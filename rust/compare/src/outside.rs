@@ -97,7 +97,7 @@ pub fn own_file(ending: &str) -> PathBuf {
 }
 
 /// The program's path: the name itself where it has a slash, else from the PATH.
-fn on_path(name: &str) -> Option<PathBuf> {
+pub fn on_path(name: &str) -> Option<PathBuf> {
     if name.contains('/') {
         return Some(PathBuf::from(name)).filter(|path| path.is_file());
     }

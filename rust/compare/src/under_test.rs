@@ -75,7 +75,8 @@ impl Program {
             | Question::Desk(_)
             | Question::State(_)
             | Question::Join(_)
-            | Question::Turns(_) => None,
+            | Question::Turns(_)
+            | Question::Cheapest(_) => None,
         }
     }
 }
@@ -99,7 +100,7 @@ mod tests {
     use super::*;
     use crate::kinds::case;
     use crate::question::{Check, Page};
-    use crate::{desks, joins, mornings, terminals, turns, undecided};
+    use crate::{cheapest, desks, joins, mornings, terminals, turns, undecided};
 
     fn program(path: &str, page: Option<&str>) -> Program {
         Program { path: path.to_string(), page: page.map(str::to_string) }
@@ -156,5 +157,6 @@ mod tests {
         assert!(!program.takes(&desks::state(1, 1).into()));
         assert!(!program.takes(&joins::join(1, 1).into()));
         assert!(!program.takes(&turns::turns(1, 1).into()));
+        assert!(!program.takes(&cheapest::cheapest(1, 1).into()));
     }
 }

@@ -3,36 +3,24 @@
 //! program, `desk N` with its calls on the lines after it, or a line that names it with its fields on
 //! the lines after it. Each checker must print the answer text for text.
 
-use crate::fields::key_and_value;
 use crate::question::{first_difference, Question};
 use crate::under_test::UnderTest;
 use std::collections::BTreeMap;
 use std::fmt::Write;
 
-/// Questions of the format that no checker answers yet.
-const NOT_YET: [&str; 1] = ["cheapest"];
-
 /// A case: its name, what is asked, and what must be printed.
 struct Vector {
     name: String,
-    asked: Asked,
+    question: Question,
     answer: String,
 }
 
-/// What is asked.
-enum Asked {
-    Known(Question),
-    /// A question that is not known yet, by its name.
-    NotYet(String),
-}
-
-/// How the cases of a file went: those that agree wherever they can be asked, those that differ
-/// somewhere, and those that were not asked.
+/// How the cases of a file went: those that agree wherever they can be asked, and those that differ
+/// somewhere.
 #[derive(Debug, Default, PartialEq, Eq)]
 pub struct Score {
     pub agree: usize,
     pub differ: Vec<String>,
-    pub skipped: usize,
 }
 
 /// Runs a file's cases through each checker. The text has a line for each difference, and then what
@@ -41,16 +29,7 @@ pub fn run(tested: &mut [Box<dyn UnderTest>], text: &str) -> Result<(Score, Stri
     let mut score = Score::default();
     let mut told = String::new();
     let mut not_asked: BTreeMap<String, Vec<String>> = BTreeMap::new();
-    for Vector { name, asked, answer } in read(text)? {
-        let question = match asked {
-            Asked::Known(question) => question,
-            Asked::NotYet(key) => {
-                score.skipped += 1;
-                let what = format!("skipped, `{key}` is not known yet");
-                not_asked.entry(what).or_default().push(name);
-                continue;
-            }
-        };
+    for Vector { name, question, answer } in read(text)? {
         let mut differs = false;
         for checker in tested.iter_mut() {
             if !checker.takes(&question) {
@@ -93,14 +72,10 @@ pub enum Prints {
 
 /// The cases of a file whose question is standard input of a program.
 pub fn program_cases(text: &str) -> Result<Vec<ProgramCase>, String> {
-    let of_program = |Vector { asked, answer, .. }: Vector| {
-        let (program, input) = match asked {
-            Asked::Known(Question::Check(check)) if check.is_of_program() => {
-                (Prints::Outcome, check.input)
-            }
-            Asked::Known(Question::Page(page)) if page.is_of_program() => {
-                (Prints::Page, page.input)
-            }
+    let of_program = |Vector { question, answer, .. }: Vector| {
+        let (program, input) = match question {
+            Question::Check(check) if check.is_of_program() => (Prints::Outcome, check.input),
+            Question::Page(page) if page.is_of_program() => (Prints::Page, page.input),
             _ => return None,
         };
         Some(ProgramCase { program, input, answer })
@@ -125,21 +100,13 @@ fn read(text: &str) -> Result<Vec<Vector>, String> {
             }
         };
         let (lines, answer) = (up_to("out")?, up_to("end")?);
-        let asked = asked(&lines).map_err(|what| format!("case {name}: {what}"))?;
+        let question = Question::read(&lines).map_err(|what| format!("case {name}: {what}"))?;
         let answer = answer.iter().map(|line| format!("{line}\n")).collect();
-        vectors.push(Vector { name: name.to_string(), asked, answer });
+        vectors.push(Vector { name: name.to_string(), question, answer });
     }
     match vectors.is_empty() {
         true => Err("there is no case".to_string()),
         false => Ok(vectors),
-    }
-}
-
-/// What these lines ask.
-fn asked(lines: &[&str]) -> Result<Asked, String> {
-    match lines.first().map(|line| key_and_value(line)) {
-        Some((key, _)) if NOT_YET.contains(&key) => Ok(Asked::NotYet(key.to_string())),
-        _ => Ok(Asked::Known(Question::read(lines)?)),
     }
 }
 
@@ -212,6 +179,12 @@ mod tests {
                          book 020100\
                          02000000000000000000000000000000\n\
                          order 0 0 0\nout\nforced fitted fitted\nend\n";
+
+    /// The rule "2": option 2 costs 4 cents, and with a rebate of 550 thousandths 1.8.
+    const CHEAPEST: &str = "case cheapest\ncheapest\n\
+                            book 020100\
+                            02000000000000000000000000000000\n\
+                            order 0 0 0\nprices 3 4\nrebate 550\nout\ncan 4 2 2\nend\n";
 
     fn through_the_port(text: &str) -> Result<(Score, String), String> {
         run(&mut [Box::new(Port)], text)
@@ -332,11 +305,12 @@ mod tests {
     }
 
     #[test]
-    fn what_is_not_known_yet_is_skipped_by_name() {
-        let price = "case a price\ncheapest\nbook 000000\norder 0 0 0\nout\ncan 0 0 0\nend\n";
-        let (score, told) = through_the_port(&format!("{SMALL}{price}")).unwrap();
-        assert_eq!(score, Score { agree: 1, differ: Vec::new(), skipped: 1 });
-        assert_eq!(told, "skipped, `cheapest` is not known yet (1): a price\n");
+    fn total_amount_due_and_choice_stand_on_one_line() {
+        let none = CHEAPEST.replace("prices 3 4", "prices 3");
+        let (score, told) = through_the_port(&format!("{CHEAPEST}{none}")).unwrap();
+        assert_eq!((score.agree, score.differ), (1, vec!["cheapest".to_string()]));
+        let due = "line 1 is `refused 18`, due is `can 4 2 2`";
+        assert_eq!(told, format!("case cheapest differs, port: {due}\n"));
     }
 
     #[test]
@@ -377,6 +351,8 @@ mod tests {
             ("join_more.txt", 90),
             ("turns.txt", 250),
             ("turns_more.txt", 120),
+            ("cheapest.txt", 250),
+            ("cheapest_more.txt", 164),
         ];
         for (file, cases) in files {
             let text = std::fs::read_to_string(format!("{folder}/{file}")).unwrap();

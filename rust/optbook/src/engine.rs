@@ -1,14 +1,15 @@
 //! The proved check, that of a morning's orders together, that of every setting of open options, and that
 //! of sites that share one allowance, through the wrapper: tables are lent to the library, and what it
 //! wrote into them is taken out. Each answer here is the library's own, and so are the page of a check, the
-//! joint book of two, and what the planner can force where buyer and planner take turns.
+//! joint book of two, what the planner can force where buyer and planner take turns, and the cheapest plant.
 
 #[cfg(feature = "proved")]
 use crate::lent::Lent;
+use crate::prices::Prices;
 use crate::{Book, Order, Rule};
 #[cfg(feature = "proved")]
 use optcheck::Terminal;
-pub use optcheck::{Answer, Kind, Page, Response, Turns, Verdict};
+pub use optcheck::{Answer, Kind, Page, Quote, Response, Turns, Verdict, PRICE, REBATE};
 
 /// What a check may use, each check of a morning, and each setting of open options: branchings, and
 /// places for derived rules. Sites share the branchings, and each has so many places.
@@ -67,6 +68,10 @@ pub type Joined = Result<Book, u32>;
 /// What turns on the free options end with: whether the planner can force a plant, and the answers; or the
 /// number of the refusal.
 pub type Settled = Result<Turns, u32>;
+
+/// What the question for the cheapest plant ends with: the quote, or none where no choice keeps book and order;
+/// or the number of the refusal.
+pub type Quoted = Result<Option<Quote>, u32>;
 
 /// The proved library is not linked.
 #[derive(Clone, Copy, Debug, PartialEq, Eq)]
@@ -164,6 +169,13 @@ pub fn turns(book: &Book, order: Order) -> Result<Settled, Unlinked> {
     Ok(optcheck::turns(&crate::bytes::book_bytes(book), order))
 }
 
+/// The cheapest plant, proved, at these prices.
+#[cfg(feature = "proved")]
+pub fn cheapest(book: &Book, order: Order, prices: &Prices) -> Result<Quoted, Unlinked> {
+    let Prices { cents, rebate } = prices;
+    Ok(optcheck::cheapest(&crate::bytes::book_bytes(book), order, cents, *rebate))
+}
+
 /// Without the library nothing is checked.
 #[cfg(not(feature = "proved"))]
 pub fn check(_: &Book, _: Order, _: Limits) -> Result<Checked, Unlinked> {
@@ -203,5 +215,11 @@ pub fn join(_: &Book, _: &Book, _: &[u8]) -> Result<Joined, Unlinked> {
 /// Without the library nothing is said of turns.
 #[cfg(not(feature = "proved"))]
 pub fn turns(_: &Book, _: Order) -> Result<Settled, Unlinked> {
+    Err(Unlinked)
+}
+
+/// Without the library no plant is the cheapest.
+#[cfg(not(feature = "proved"))]
+pub fn cheapest(_: &Book, _: Order, _: &Prices) -> Result<Quoted, Unlinked> {
     Err(Unlinked)
 }

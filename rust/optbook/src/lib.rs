@@ -2,11 +2,13 @@
 //!
 //! `sheet` reads the readable form with the line of each `mistake`, and `text` writes it; `bytes` and
 //! `dimacs` are the two other forms of a book. `engine` is the proved check of an order, of several, of
-//! one with open options, or of sites that share one allowance, the page of one, and what a planner can force
-//! in turns with a buyer, `outcome` tells what it found with the options' names, and `explain` looks for the
-//! reason of a `cannot`. `desk` is the library's desk, `session` what is done at it, and `command` reads what
-//! is asked for there. `join` has the names and the places of two books that the library joined.
+//! one with open options, or of sites that share one allowance, the page of one, what a planner can force in
+//! turns with a buyer, and the cheapest plant, `outcome` tells what it found with the options' names, and
+//! `explain` looks for the reason of a `cannot`. `desk` is the library's desk, `session` what is done at it,
+//! and `command` reads what is asked for there. `join` has the names and the places of two books that the
+//! library joined. `prices` reads what the options cost, and `bill` sets out what a plant costs.
 
+pub mod bill;
 pub mod bytes;
 pub mod command;
 pub mod desk;
@@ -18,6 +20,7 @@ pub mod join;
 mod lent;
 pub mod mistake;
 pub mod outcome;
+pub mod prices;
 pub mod session;
 pub mod sheet;
 pub mod text;
@@ -61,6 +64,13 @@ pub fn first(count: usize) -> u64 {
     } else {
         option(count) - 1
     }
+}
+
+/// The free options of an order on so many options: in the completed order they are neither wanted nor
+/// unwanted.
+pub fn free(order: Order, options: usize) -> u64 {
+    let Order { wanted, unwanted, .. } = order.completed();
+    first(options) & !(wanted | unwanted)
 }
 
 impl Rule {

@@ -4,6 +4,9 @@
 use crate::engine::{Answer, Checked, Kind, Record};
 use crate::text::{rule_text, set_text};
 
+/// How a check ends where no choice keeps every rule and wish.
+pub const CANNOT: &str = "cannot be built: no choice of options keeps every rule and wish";
+
 /// What each refusal and each stop says, by its number.
 fn reason(number: u32) -> &'static str {
     match number {
@@ -23,6 +26,10 @@ fn reason(number: u32) -> &'static str {
         14 => "the draft's number is not 1 to 16",
         15 => "that draft was never kept",
         16 => "more than 12 options are free",
+        17 => "more than 20 options are free",
+        18 => {
+            "a price is missing or above 10,000,000 cents, or the rebate is above 1,000 thousandths"
+        }
         19 => "more than 10 options are open, or one is above the book's last",
         20 => "an open option is also wanted or unwanted",
         21 => "the number of sites is not 1 to 8",
@@ -49,9 +56,7 @@ pub fn ending(answer: Answer) -> String {
     let (number, reason) = (answer.number, reason(answer.number));
     match answer.kind {
         Kind::Can => "can be built: some choice of options keeps every rule and wish".to_string(),
-        Kind::Cannot => {
-            "cannot be built: no choice of options keeps every rule and wish".to_string()
-        }
+        Kind::Cannot => CANNOT.to_string(),
         Kind::Refused => refusal(number),
         Kind::Stopped => format!("stopped without a verdict, number {number}: {reason}"),
     }
@@ -60,6 +65,12 @@ pub fn ending(answer: Answer) -> String {
 /// A refusal, by its number.
 pub fn refusal(number: u32) -> String {
     format!("refused, number {number}: {}", reason(number))
+}
+
+/// A refusal of too many free options, with these.
+pub fn refusal_with_free(number: u32, free: u64, names: &[String]) -> String {
+    let (refusal, count) = (refusal(number), free.count_ones());
+    format!("{refusal}: {count}\nfree: {}", set_text(free, names))
 }
 
 fn counts(answer: Answer) -> String {
@@ -122,6 +133,10 @@ mod tests {
         assert_eq!(refusal(14), fourteen);
         assert_eq!(refusal(15), "refused, number 15: that draft was never kept");
         assert_eq!(refusal(16), "refused, number 16: more than 12 options are free");
+        assert_eq!(refusal(17), "refused, number 17: more than 20 options are free");
+        let eighteen = "refused, number 18: a price is missing or above 10,000,000 cents, or the \
+                        rebate is above 1,000 thousandths";
+        assert_eq!(refusal(18), eighteen);
         let nineteen =
             "refused, number 19: more than 10 options are open, or one is above the book's last";
         assert_eq!(told(Kind::Refused, 19), nineteen);
@@ -136,6 +151,12 @@ mod tests {
                             rules, or more bytes than are lent";
         assert_eq!(refusal(23), twenty_three);
         assert_eq!(told(Kind::Refused, 63), "refused, number 63: no number of the table");
+    }
+
+    #[test]
+    fn too_many_free_options_are_told_by_names() {
+        let due = "refused, number 17: more than 20 options are free: 2\nfree: x1 x3";
+        assert_eq!(refusal_with_free(17, 5, &numbered_names(3)), due);
     }
 
     #[test]

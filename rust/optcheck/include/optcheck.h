@@ -4,15 +4,16 @@
  * of one book; a third checks an order with every setting of options that are left open; two more
  * serve sites, one a call, that share one allowance; another writes the outcome as a page of text;
  * five more make and alter a desk, which has an order and drafts of it to come back to; another
- * joins two books into one; and the last says whether the planner can force a plant where buyer and
- * planner settle the free options in turns. Every length is permitted: a bad one is a refusal, and a
- * page that is too short stays as it was.
+ * joins two books into one; another says whether the planner can force a plant where buyer and
+ * planner settle the free options in turns; and the last finds the cheapest choice of options at
+ * given prices. Every length is permitted: a bad one is a refusal, and a page that is too short
+ * stays as it was.
  *
- * Books, orders, pairs, answers, each table, the page and the joint book are a pointer and a length
- * in elements, and a verdict, a setting, the numbers of a terminal, a desk, the planner's answers
- * and a length that is handed over are pointers. What is written overlaps nothing else; books, orders
- * and pairs that are given are only read. A pointer with the length 0 is not used, and must not be
- * null.
+ * Books, orders, pairs, prices, answers, each table, the page and the joint book are a pointer and a
+ * length in elements, and a verdict, a setting, the numbers of a terminal, a desk, the planner's
+ * answers, the numbers of a quote and a length that is handed over are pointers. What is written
+ * overlaps nothing else; books, orders, pairs and prices that are given are only read. A pointer
+ * with the length 0 is not used, and must not be null.
  */
 
 #ifndef OPTCHECK_H
@@ -26,8 +27,8 @@
 extern "C" {
 #endif
 
-/* The limits of a book, of the lent tables, of a morning, of open options, of a terminal, of a desk
- * and of turns, and the lengths of a page and of a book. */
+/* The limits of a book, of the lent tables, of a morning, of open options, of a terminal, of a desk,
+ * of turns and of a quote, and the lengths of a page and of a book. */
 #define OPTCHECK_OPTIONS 64u
 #define OPTCHECK_RULES 1024u
 #define OPTCHECK_DERIVED_PLACES 2048u /* pos and neg: equal lengths, at most this */
@@ -37,6 +38,9 @@ extern "C" {
 #define OPTCHECK_SITES 8u             /* a terminal: at least one site, at most this */
 #define OPTCHECK_DRAFTS 16u           /* a desk: its drafts are 1 to this */
 #define OPTCHECK_FREE 12u             /* turns: free options, at most this */
+#define OPTCHECK_PRICED 20u           /* a quote: free options, at most this */
+#define OPTCHECK_PRICE 10000000u      /* the price of an option: 0 to this, in cents */
+#define OPTCHECK_REBATE 1000u         /* a rebate: 0 to this, in thousandths */
 #define OPTCHECK_PAGE_LINE 41u        /* a page: the bytes of a line */
 #define OPTCHECK_PAGE_BYTES 84009u    /* the longest page: a line, and one for each derived rule */
 #define OPTCHECK_BOOK_BYTES 16387u    /* the longest book: 3, and 16 for each rule */
@@ -279,6 +283,37 @@ uint32_t optcheck_turns(
     uint64_t wanted, uint64_t unwanted, uint64_t standard,
     uint32_t *forced, uint32_t *to_out, uint32_t *to_fitted);
 
+/*
+ * Finds the cheapest choice of options that keeps every rule and wish.
+ *
+ *   prices  the price of option k, in cents, at place k - 1; those of options above the book's last
+ *           are not read
+ *   rebate  in thousandths
+ *
+ * The order is completed as by optcheck_check, and an option that is then neither wanted nor
+ * unwanted is free. The list total of a choice is the sum of the prices of its fitted options.
+ *
+ *   can     1 where some choice keeps every rule and wish, and else 0
+ *   total   the least list total of such a choice, in cents
+ *   due     the amount due on it: total * (1000 - rebate) / 1000, halves rounded up to the cent
+ *   choice  the fitted options of such a choice with this total, of several the smallest word
+ *
+ * Where can is 0, so are the three others. There is no allowance, and always an answer: where
+ * optcheck_check has a verdict on this book and order, it is OPTCHECK_CAN exactly if can is 1.
+ *
+ * The result is 0. Or it is the number of a refusal, and none of the four is touched: 1 to 8 or 12,
+ * as of optcheck_check, and then
+ *
+ *   17  more than OPTCHECK_PRICED options are free
+ *   18  there are fewer prices than options, the price of an option is above OPTCHECK_PRICE, or the
+ *       rebate is above OPTCHECK_REBATE
+ */
+uint32_t optcheck_cheapest(
+    const uint8_t *book, size_t book_len,
+    uint64_t wanted, uint64_t unwanted, uint64_t standard,
+    const uint64_t *prices, size_t prices_len, uint64_t rebate,
+    uint32_t *can, uint64_t *total, uint64_t *due, uint64_t *choice);
+
 /* The kinds of an answer. */
 #define OPTCHECK_CAN 0u
 #define OPTCHECK_CANNOT 1u
@@ -306,8 +341,8 @@ static inline unsigned optcheck_kind(uint64_t answer) { return (unsigned)(answer
 /*
  * 0 for a verdict, 1 to 9 or 12 refused (12: a standard option above the book's last), 10 or 11
  * stopped. 19 and 20 are refusals of optcheck_undecided alone, and 21 one of optcheck_site alone.
- * 13, 14, 15, 16, 22 and 23 are no answer's numbers: a morning that is refused has no answers, and a
- * desk, turns and joined books have none.
+ * 13 to 18, 22 and 23 are no answer's numbers: a morning that is refused has no answers, and a desk,
+ * turns, a quote and joined books have none.
  */
 static inline unsigned optcheck_number(uint64_t answer) { return (unsigned)(answer >> 2 & 63); }
 

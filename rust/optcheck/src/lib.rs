@@ -1,8 +1,9 @@
 //! A safe wrapper over the proved checker's static library (include/optcheck.h). `check`, `morning`,
-//! `undecided`, `sites`, `Terminal`, `page`, `Desk`, `join` and `turns` are there with the feature `proved`;
-//! without it nothing is linked.
+//! `undecided`, `sites`, `Terminal`, `page`, `Desk`, `join`, `turns` and `cheapest` are there with the feature
+//! `proved`; without it nothing is linked.
 
 mod answer;
+mod cheapest;
 mod desk;
 #[cfg(feature = "proved")]
 mod library;
@@ -12,7 +13,10 @@ mod tried;
 mod turns;
 
 pub use answer::{Answer, Kind};
+pub use cheapest::{Quote, PRICE, REBATE};
 pub use desk::{DeskWords, DRAFTS};
+#[cfg(feature = "proved")]
+pub use library::{cheapest, cheapest_words};
 #[cfg(feature = "proved")]
 pub use library::{check, check_word, morning, morning_words, undecided, undecided_words};
 #[cfg(feature = "proved")]

@@ -7,9 +7,12 @@
 //! share one allowance. `page` makes the page of an outcome. `Desk` is an order with drafts to come back to,
 //! as the list of its calls, and `DeskWords` what a call does to a desk of any words. `join` makes one book of
 //! two. `turns` says whether the planner can force a plant where the buyer and he settle the free options.
+//! `cheapest` finds the cheapest plant by trying all choices, and `cheapest_by_branches` the same one sooner.
 //! `run_program` does what the program does with its standard input.
 
 mod book;
+mod cheapest;
+mod cheapest_by_branches;
 mod desk;
 mod desk_words;
 mod join;
@@ -24,6 +27,8 @@ mod turns;
 mod undecided;
 mod words;
 
+pub use cheapest::{cheapest, Quote};
+pub use cheapest_by_branches::cheapest_by_branches;
 pub use desk::{Call, Desk, Standing};
 pub use desk_words::DeskWords;
 pub use join::join;

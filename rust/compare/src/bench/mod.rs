@@ -1,14 +1,16 @@
 //! The same books through the library, the port, the outside solvers whose libraries are there and an
 //! outside solver's process, in one run and in turns, as a table; mornings through the library as a
-//! second one, open options as a third, sites as a fourth, and turns of buyer and planner as a fifth. Times
-//! are medians of repeated runs; ratios hold across machines, times do not.
+//! second one, open options as a third, sites as a fourth, turns of buyer and planner as a fifth, and cheapest
+//! plants as a sixth. Times are medians of repeated runs; ratios hold across machines, times do not.
 
+mod cheapest;
 mod morning;
 mod open;
 mod sites;
 mod turns;
 
 use crate::in_process::{Clauses, InProcess};
+use crate::optimiser::Optimiser;
 use crate::outside::Solver;
 use crate::random::Random;
 use crate::shapes;
@@ -57,6 +59,7 @@ pub fn run(
     solver: Result<Solver, String>,
     in_process: Vec<Result<InProcess, String>>,
     quantified: Result<Solver, String>,
+    optimiser: Result<Optimiser, String>,
     seed: u64,
 ) -> Result<(), String> {
     println!("{}", heading(&solver, &in_process));
@@ -79,7 +82,8 @@ pub fn run(
     morning::run(seed)?;
     open::run(seed)?;
     sites::run(seed)?;
-    turns::run(quantified, seed)
+    turns::run(quantified, seed)?;
+    cheapest::run(optimiser, seed)
 }
 
 /// The head of the table, after a note on each solver that is missing.

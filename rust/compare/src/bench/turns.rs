@@ -134,7 +134,7 @@ fn is_forced(settled: &Settled) -> bool {
 }
 
 /// An order with all options of a book but these, by index, wanted and unwanted in turn.
-fn all_but(free: &[usize], options: usize) -> Order {
+pub fn all_but(free: &[usize], options: usize) -> Order {
     let free = shapes::union(free);
     let wished = (0..options).map(option).filter(|option| free & option == 0);
     let wanted: u64 = wished.step_by(2).sum();

@@ -2,9 +2,10 @@
 //! so that it shows what a check has written and that it has written nothing else. For a morning each
 //! table is cut into equal parts, and an order's part has its outcome. For open options the tables are
 //! set to zero, and have the last setting's outcome. For sites each has tables of its own, and a
-//! terminal's numbers are lent too. A page and a joint book are lent as bytes, a desk as its words, and what
-//! comes of turns as three words.
+//! terminal's numbers are lent too. A page and a joint book are lent as bytes, a desk as its words, what comes of
+//! turns as three words, and the cheapest plant as four.
 
+pub mod cheapest;
 pub mod desk;
 pub mod join;
 pub mod morning;

@@ -2,6 +2,7 @@
 //! is read from the fields of a case and asked of the port, and a variant of `Question`. Each checker
 //! (under_test.rs, library.rs) says whether it takes it.
 
+mod cheapest;
 mod check;
 mod desk;
 mod join;
@@ -13,6 +14,7 @@ mod state;
 mod terminal;
 mod turns;
 
+pub use cheapest::{quoted_text, Cheapest, Quoted};
 pub use check::{Check, ORDER};
 pub use desk::{answers_text, Answers, Desk};
 pub use join::{joined_text, Join, Joined};
@@ -41,6 +43,7 @@ pub enum Question {
     State(Box<State>),
     Join(Join),
     Turns(Turns),
+    Cheapest(Cheapest),
 }
 
 impl Question {
@@ -61,6 +64,7 @@ impl Question {
             ("state", "") => Ok(State::read(fields)?.into()),
             ("join", "") => Ok(Join::read(fields)?.into()),
             ("turns", "") => Ok(Turns::read(fields)?.into()),
+            ("cheapest", "") => Ok(Cheapest::read(fields)?.into()),
             (key, _) => Err(format!("`{key}` is no question")),
         }
     }
@@ -78,6 +82,7 @@ impl Question {
             Question::State(state) => state_text(&state.port_after()),
             Question::Join(join) => joined_text(&join.port_joined()),
             Question::Turns(turns) => settled_text(&turns.port_settled()),
+            Question::Cheapest(cheapest) => quoted_text(&cheapest.port_quoted()),
         }
     }
 }
@@ -139,6 +144,12 @@ impl From<Join> for Question {
 impl From<Turns> for Question {
     fn from(turns: Turns) -> Question {
         Question::Turns(turns)
+    }
+}
+
+impl From<Cheapest> for Question {
+    fn from(cheapest: Cheapest) -> Question {
+        Question::Cheapest(cheapest)
     }
 }
 

@@ -1,13 +1,15 @@
 //! Generated books and orders whose free options are settled in turns. Question number i of a seed is the same
 //! wherever it is made.
 
-use crate::orders::{above, contradictory, some_order, standard_above};
+use crate::free::{add, before_refusal, fill, free_and_others, insert};
+use crate::free::{order, refused_order, rule, too_many};
+use crate::orders::some_order;
 use crate::question::Turns;
 use crate::random::Random;
 use crate::refused::refused_bytes;
-use crate::shapes::{self, distinct, union};
+use crate::shapes;
 use optbook::bytes::book_bytes;
-use optbook::{first, option, Book, Order, Rule, OPTIONS, RULES};
+use optbook::{Book, Order, Rule, OPTIONS, RULES};
 
 /// What is asked, in turn.
 #[derive(Clone, Copy, PartialEq, Eq)]
@@ -66,8 +68,8 @@ pub fn turns(seed: u64, number: usize) -> Turns {
         }
         Sort::Largest => aimed(random, OPTIONS, free, forced, true),
         Sort::Plain => plain(random),
-        Sort::TooMany => too_many(random, turn),
-        Sort::RefusedOrder => refused_order(random, turn),
+        Sort::TooMany => too_many(random, turn, FREE),
+        Sort::RefusedOrder => refused_order(random, turn, FREE),
         Sort::RefusedBook => {
             let (book, order) = before_refusal(random);
             return Turns { book: refused_bytes(random, &book, 1 + turn % 6), order };
@@ -104,12 +106,7 @@ fn aimed(
             true => buyers_rule(random, &book, order),
             false => others[random.below(others.len())],
         };
-        let place = match random.below(3) {
-            0 => 0,
-            1 => book.rules.len(),
-            _ => random.between(0, book.rules.len()),
-        };
-        book.rules.insert(place, other);
+        insert(random, &mut book, other);
     }
     (book, order)
 }
@@ -117,55 +114,6 @@ fn aimed(
 fn is_forced(book: &Book, order: Order) -> bool {
     let turns = Turns { book: book_bytes(book), order };
     matches!(turns.port_settled(), Ok(answer) if answer.forced)
-}
-
-/// An order in which just so many of these options are free, which stand apart or come last. Each other one is
-/// wanted, unwanted or standard, and sometimes standard beside that.
-fn order(random: &mut Random, options: usize, free: usize) -> Order {
-    let free = match random.chance(1, 4) {
-        true => first(options) & !first(options - free),
-        false => union(&distinct(random, options, free)),
-    };
-    let mut order = Order::default();
-    for option in (0..options).map(option).filter(|option| free & option == 0) {
-        match random.below(5) {
-            0 | 1 => order.wanted |= option,
-            2 | 3 => order.unwanted |= option,
-            _ => order.standard |= option,
-        }
-        if random.chance(1, 6) {
-            order.standard |= option;
-        }
-    }
-    order
-}
-
-/// The free options of a book with an order, and the others, each as a set.
-fn free_and_others(book: &Book, order: Order) -> [Vec<u64>; 2] {
-    let Order { wanted, unwanted, .. } = order.completed();
-    let is_free = |option: &u64| (wanted | unwanted) & option == 0;
-    let (free, others) = (0..book.options).map(option).partition(is_free);
-    [free, others]
-}
-
-/// A rule of one to three free options, or of half of them and more; and often of others, with entries that the
-/// order mostly makes false.
-fn rule(random: &mut Random, book: &Book, order: Order, is_long: bool) -> Rule {
-    let [free, others] = free_and_others(book, order);
-    let count = match is_long {
-        true => random.between(free.len() / 2, free.len()),
-        false => random.between(1, 3),
-    };
-    let mut rule = Rule::default();
-    for index in distinct(random, free.len(), count) {
-        add(&mut rule, free[index], random.chance(1, 2));
-    }
-    let count = random.below(3);
-    for index in distinct(random, others.len(), count) {
-        let keeps = random.chance(1, 8);
-        add(&mut rule, others[index], is_wanted(order, others[index]) == keeps);
-    }
-    rule
 }
 
 /// A rule that the buyer can break: of one entry of an option of his, or of none where he has none.
@@ -179,39 +127,6 @@ fn buyers_rule(random: &mut Random, book: &Book, order: Order) -> Rule {
     rule
 }
 
-fn is_wanted(order: Order, option: u64) -> bool {
-    order.completed().wanted & option != 0
-}
-
-/// Adds an entry to a rule.
-fn add(rule: &mut Rule, option: u64, fitted: bool) {
-    match fitted {
-        true => rule.fitted |= option,
-        false => rule.left_out |= option,
-    }
-}
-
-/// Gives a book so many rules: its own come again, between others that the order keeps. Not all of its options
-/// are free.
-fn fill(random: &mut Random, book: &mut Book, order: Order, rules: usize) {
-    let [_, others] = free_and_others(book, order);
-    let own = book.rules.len();
-    while book.rules.len() < rules {
-        let mut next = rule(random, book, order, false);
-        match own > 0 && random.chance(1, 2) {
-            true => next = book.rules[random.below(own)],
-            false => {
-                let kept = others[random.below(others.len())];
-                next.fitted &= !kept;
-                next.left_out &= !kept;
-                add(&mut next, kept, is_wanted(order, kept));
-            }
-        }
-        book.rules.push(next);
-    }
-    random.shuffle(&mut book.rules);
-}
-
 /// A small book with an order, which may be refused, and in which few options are wished.
 fn plain(random: &mut Random) -> (Book, Order) {
     let book = match random.chance(1, 2) {
@@ -223,51 +138,6 @@ fn plain(random: &mut Random) -> (Book, Order) {
     };
     let order = some_order(random, book.options);
     (book, order)
-}
-
-/// A book and an order that leaves one option more free than may be or, every second time, more.
-fn too_many(random: &mut Random, turn: usize) -> (Book, Order) {
-    let least = FREE + 1 + turn % 2;
-    let options = random.between(least, OPTIONS);
-    let free = match turn.is_multiple_of(2) {
-        true => least,
-        false => random.between(least, options),
-    };
-    let order = order(random, options, free);
-    (shapes::option_book(random, options), order)
-}
-
-/// A book and an order with which it is refused by 7, 8 or 12 in turn. In one half of the cases there are also
-/// too many free options.
-fn refused_order(random: &mut Random, turn: usize) -> (Book, Order) {
-    let (options, free) = match (turn / 3).is_multiple_of(2) {
-        true => {
-            let free = random.between(FREE + 2, OPTIONS - 1);
-            (random.between(free, OPTIONS - 1), free)
-        }
-        false => {
-            let free = random.below(FREE + 1);
-            (random.between(free + 1, OPTIONS - 1), free)
-        }
-    };
-    let good = order(random, options, free);
-    let bad = match turn % 3 {
-        0 => above(random, good, options),
-        1 => contradictory(random, good, options),
-        _ => standard_above(random, good, options),
-    };
-    (shapes::option_book(random, options), bad)
-}
-
-/// A book with a rule, an option, and not all options, and an order that may be refused too.
-fn before_refusal(random: &mut Random) -> (Book, Order) {
-    let options = random.between(2, OPTIONS - 1);
-    let order = some_order(random, options);
-    let order = match random.chance(1, 2) {
-        true => contradictory(random, order, options),
-        false => order,
-    };
-    (shapes::option_book(random, options), order)
 }
 
 #[cfg(test)]
@@ -306,20 +176,6 @@ mod tests {
             let before = settled(&book);
             fill(&mut random, &mut book, order, RULES);
             assert_eq!((settled(&book), book.rules.len()), (before, RULES));
-        }
-    }
-
-    #[test]
-    fn each_refusal_comes_in_its_turn() {
-        let mut random = Random::new(5);
-        for turn in 0..60 {
-            let (book, order) = too_many(&mut random, turn);
-            let free = free_and_others(&book, order)[0].len();
-            assert_eq!(free == FREE + 1, turn % 2 == 0);
-            assert_eq!(Turns { book: book_bytes(&book), order }.port_settled(), Err(16));
-            let (book, order) = refused_order(&mut random, turn);
-            let refused = Turns { book: book_bytes(&book), order }.port_settled();
-            assert_eq!(refused, Err([7, 8, 12][turn % 3]));
         }
     }
 }

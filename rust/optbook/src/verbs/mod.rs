@@ -1,6 +1,7 @@
 //! The verbs. A verb is a file here with its `VERB`, and a line in `VERBS`.
 
 mod bytes;
+mod cheapest;
 mod check;
 mod desk;
 mod dimacs;
@@ -29,6 +30,7 @@ pub const VERBS: &[Verb] = &[
     desk::VERB,
     join::VERB,
     turns::VERB,
+    cheapest::VERB,
     bytes::VERB,
     text::VERB,
     dimacs::VERB,
@@ -78,7 +80,8 @@ const FORM: &str = "
 BOOK and ORDER are readable texts, which are read one after the other; - is standard input. ORDERS
 are several such texts, each read after BOOK, and NAMES are names of options; FILE of desk has commands.
 FIRST and SECOND of join are two books, and PAIRS are NAME=NAME, a name of the one and one of the other.
-`optbook VERB --help` tells more of a verb. A text has one thing a line:
+PRICES of cheapest is a text of prices, as its help shows. `optbook VERB --help` tells more of a verb. A
+text has one thing a line:
 
   options: ring_main twin_header third_vessel
   ring_main | twin_header | !third_vessel      # a rule; ! says left out
@@ -86,12 +89,11 @@ FIRST and SECOND of join are two books, and PAIRS are NAME=NAME, a name of the o
   want: ring_main
   without: third_vessel
 
-Exit status: check, explain and page end with 0 where the order can be built, 1 where it cannot, 2
-where the checker refuses it, 3 where it stops without a verdict, and morning and sites with the highest
-of their orders; open with 0 where every setting can be built, 1 where none can, 2 and 3 likewise, and 4
-where some can but not all; join with 2 where the joint book is refused; turns with 0 where the planner can
-force it, 1 where not, and 2 where it is refused; and else the other verbs with 0. All end with 64 on a bad
-command line, with 65 where what is read has a mistake or cannot be read, and with 74 where the output cannot
-be written. desk goes on after a mistake in its commands: at a terminal it ends with 0, and otherwise then
-with 65.
+Exit status: check, explain, page and cheapest end with 0 where the order can be built, 1 where it cannot, 2
+where it is refused, 3 where it stops without a verdict, and morning and sites with the highest of their
+orders; open with 0 where every setting can be built, 1 where none can, 2 and 3 likewise, and 4 where some
+can but not all; join with 2 where the joint book is refused; turns with 0 where the planner can force it, 1
+where not, and 2 where it is refused; and else the other verbs with 0. All end with 64 on a bad command line,
+with 65 where what is read has a mistake or cannot be read, and with 74 where the output cannot be written.
+desk goes on after a mistake in its commands: at a terminal it ends with 0, and otherwise then with 65.
 ";

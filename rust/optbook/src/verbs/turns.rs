@@ -6,9 +6,9 @@ use crate::arguments::Arguments;
 use crate::ending::{status_of, Failure, Printed};
 use crate::files::read_sheet;
 use optbook::engine::{turns, Kind, Response, Settled, Turns};
-use optbook::outcome::refusal;
-use optbook::text::{set_names, set_text};
-use optbook::{first, Order};
+use optbook::outcome::{refusal, refusal_with_free};
+use optbook::text::set_names;
+use optbook::{free, Order};
 
 pub const VERB: Verb = Verb {
     name: "turns",
@@ -45,24 +45,15 @@ fn run(arguments: &Arguments) -> Result<Printed, Failure> {
     Ok(told(&settled, sheet.order(), &sheet.names))
 }
 
-/// The options that are neither wanted nor unwanted in the completed order.
-fn free(order: Order, names: &[String]) -> u64 {
-    let Order { wanted, unwanted, .. } = order.completed();
-    first(names.len()) & !(wanted | unwanted)
-}
-
 /// What is printed: the verdict, the turns and the planner's answers; or the refusal, with the free options.
 fn told(settled: &Settled, order: Order, names: &[String]) -> Printed {
-    let free = free(order, names);
+    let free = free(order, names.len());
     let (lines, kind) = match settled {
         Ok(turns) => {
             let kind = if turns.forced { Kind::Can } else { Kind::Cannot };
             (in_words(*turns, &set_names(free, names)), kind)
         }
-        Err(16) => {
-            let told = format!("{}: {}", refusal(16), free.count_ones());
-            (vec![told, format!("free: {}", set_text(free, names))], Kind::Refused)
-        }
+        Err(16) => (vec![refusal_with_free(16, free, names)], Kind::Refused),
         Err(number) => (vec![refusal(*number)], Kind::Refused),
     };
     Printed { bytes: (lines.join("\n") + "\n").into_bytes(), status: status_of(kind) }

@@ -1,9 +1,9 @@
 //! Where nothing is checked: the forms of a book there and back, mistakes, bad command lines and the
 //! help.
 
-use crate::run::{optbook, CAN, DOSING, DRYING, PLANT};
+use crate::run::{optbook, CAN, DOSING, DRYING, PLANT, PRICES};
 
-const VERBS: [&str; 13] = [
+const VERBS: [&str; 14] = [
     "check",
     "morning",
     "open",
@@ -13,6 +13,7 @@ const VERBS: [&str; 13] = [
     "desk",
     "join",
     "turns",
+    "cheapest",
     "bytes",
     "text",
     "dimacs",
@@ -176,6 +177,46 @@ fn a_name_of_both_books_that_is_not_paired_is_told() {
 }
 
 #[test]
+fn a_mistake_in_the_prices_is_told() {
+    let due = [
+        (
+            &b"# prices\nprice: dram 7\n"[..],
+            "line 2: no option is named `dram`: expected a name of an `options:` line",
+        ),
+        (
+            b"price: drum 7.5\n",
+            "line 1: `7.5` is no amount: expected cents, as in 125000, or two digits after a point, \
+             as in 1250.00",
+        ),
+        (b"rebate: 0\nrebate: 0\n", "line 2: a second `rebate:` line: expected one"),
+        (
+            b"price: drum 99999999999999999999\n",
+            "line 1: `99999999999999999999` does not fit 64 bits: expected at most 10000000 cents",
+        ),
+        (
+            b"rebate: 0\nprice: drum 7\nprice: screen 8.00\n",
+            "line 3: the prices end without one for windrows tunnel ring_main twin_header \
+             small_blower large_blower biofilter scrubber leachate_tank roof: expected a `price:` \
+             line for each option",
+        ),
+        (b"\xff", "line 1: a byte that is no text: expected UTF-8"),
+    ];
+    for (prices, what) in due {
+        let ended = optbook(&["cheapest", PLANT, CAN, "-"], prices);
+        let due = format!("optbook: standard input: {what}\n");
+        assert_eq!((ended.said, ended.status), (due, 65));
+        assert!(ended.printed.is_empty());
+    }
+    let ended = optbook(&["cheapest", PLANT, "-", PRICES], b"price: drum 7\n");
+    let due = "optbook: standard input: line 1: `price:` is unknown: expected `options:`, \
+               `standard:`, `want:`, `without:` or a rule\n";
+    assert_eq!((ended.said.as_str(), ended.status), (due, 65));
+    let ended = optbook(&["cheapest", PLANT, CAN, "no-such-file"], b"");
+    assert!(ended.said.starts_with("optbook: no-such-file: "), "{}", ended.said);
+    assert_eq!(ended.status, 65);
+}
+
+#[test]
 fn what_cannot_be_read_is_told_with_its_file() {
     let ended = optbook(&["bytes", "no-such-file"], b"");
     assert!(ended.said.starts_with("optbook: no-such-file: "), "{}", ended.said);
@@ -246,6 +287,10 @@ fn a_bad_command_line_ends_with_64_and_says_how() {
         (&["turns", PLANT, CAN, CAN], "3 files are given: expected 1 at least and 2 at most"),
         (&["turns", "-", "-"], "`-` stands twice: standard input is read once"),
         (&["turns", PLANT, "--allowance", "7"], "`--allowance` is unknown here"),
+        (&["cheapest", PLANT, PRICES], "2 files are given: expected 3"),
+        (&["cheapest", PLANT, CAN, PRICES, PRICES], "4 files are given: expected 3"),
+        (&["cheapest", PLANT, "-", "-"], "`-` stands twice: standard input is read once"),
+        (&["cheapest", PLANT, CAN, PRICES, "--rebate", "5"], "`--rebate` is unknown here"),
         (&["check", PLANT, "--same-names"], "`--same-names` is unknown here"),
         (&["check", "-", "-"], "`-` stands twice: standard input is read once"),
         (&["bytes", PLANT, "--places", "1"], "`--places` is unknown here"),
@@ -295,7 +340,13 @@ fn without_the_library_nothing_is_answered() {
         assert!(ended.said.starts_with("optbook: built without the proved library"));
         assert_eq!((ended.status, ended.printed.len()), (69, 0));
     }
-    let ended = optbook(&["join", DOSING, DRYING, "cabinet=panel", "--same-names"], b"");
-    assert!(ended.said.starts_with("optbook: built without the proved library"));
-    assert_eq!((ended.status, ended.printed.len()), (69, 0));
+    let others = [
+        &["join", DOSING, DRYING, "cabinet=panel", "--same-names"][..],
+        &["cheapest", PLANT, CAN, PRICES],
+    ];
+    for words in others {
+        let ended = optbook(words, b"");
+        assert!(ended.said.starts_with("optbook: built without the proved library"));
+        assert_eq!((ended.status, ended.printed.len()), (69, 0));
+    }
 }

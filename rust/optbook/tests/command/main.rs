@@ -1,6 +1,8 @@
 //! The command `optbook`, as it is run: where nothing is checked, and with the proved library.
 
 #[cfg(feature = "proved")]
+mod cheapest;
+#[cfg(feature = "proved")]
 mod desk;
 mod forms;
 #[cfg(feature = "proved")]

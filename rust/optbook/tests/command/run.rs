@@ -45,5 +45,6 @@ pub fn file(name: &str, text: &str) -> String {
 
 pub const PLANT: &str = "examples/plant.book";
 pub const CAN: &str = "examples/plant.order";
+pub const PRICES: &str = "examples/plant.prices";
 pub const DOSING: &str = "examples/dosing.book";
 pub const DRYING: &str = "examples/drying.book";

@@ -1,5 +1,6 @@
 //! The calls into the static library, each in a file of its own.
 
+mod cheapest;
 mod check;
 mod desk;
 mod join;
@@ -11,6 +12,7 @@ mod small;
 mod turns;
 mod undecided;
 
+pub use cheapest::{cheapest, cheapest_words};
 pub use check::{check, check_word};
 pub use desk::{desk_clear_words, desk_fresh_words, desk_keep_words, desk_return_words};
 pub use desk::{desk_set_words, Desk};

@@ -1,0 +1,157 @@
+//! What a plant costs, set out as on a bill: the fitted options with their prices, the list total, what the
+//! rebate takes off, and the amount due.
+
+use crate::engine::Quote;
+use crate::prices::Prices;
+use crate::{option, Order};
+
+/// The bill of a quote on an order, over options with these prices and names. What the order wants, or has as
+/// standard, is marked.
+pub fn bill(quote: Quote, order: Order, prices: &Prices, names: &[String]) -> String {
+    let Quote { total, due, choice } = quote;
+    let priced = names.iter().zip(&prices.cents).enumerate();
+    let mut options: Vec<Row> = priced
+        .filter(|(index, _)| choice & option(*index) != 0)
+        .map(|(index, (name, &cents))| (name.clone(), money(cents), mark(order, option(index))))
+        .collect();
+    if options.is_empty() {
+        options.push(("(none)".to_string(), String::new(), ""));
+    }
+    let off = match total - due {
+        0 => money(0),
+        off => format!("-{}", money(off)),
+    };
+    let sums: [Row; 3] = [
+        ("list total".to_string(), money(total), ""),
+        (format!("rebate {}", percentage(prices.rebate)), off, ""),
+        ("amount due".to_string(), money(due), ""),
+    ];
+
+    let widest = |length: fn(&Row) -> usize| options.iter().chain(&sums).map(length).max();
+    let label_width = widest(|(label, _, _)| label.len()).unwrap_or(0);
+    let amount_width = widest(|(_, amount, _)| amount.len()).unwrap_or(0);
+    let line = |(label, amount, mark): &Row| {
+        let line = format!("{label:label_width$}  {amount:>amount_width$}  {mark}");
+        line.trim_end().to_string() + "\n"
+    };
+    let ruled = "-".repeat(label_width + 2 + amount_width) + "\n";
+    let [options, sums] =
+        [&options[..], &sums].map(|rows| rows.iter().map(line).collect::<String>());
+    options + &ruled + &sums
+}
+
+/// A line of a bill: what it is about, an amount, and a mark.
+type Row = (String, String, &'static str);
+
+/// How the order asks for an option that is fitted.
+fn mark(order: Order, option: u64) -> &'static str {
+    if order.wanted & option != 0 {
+        "wanted"
+    } else if order.standard & option != 0 {
+        "standard"
+    } else {
+        ""
+    }
+}
+
+/// An amount of cents, with a point before the last two digits.
+pub fn money(cents: u64) -> String {
+    format!("{}.{:02}", cents / 100, cents % 100)
+}
+
+/// A rebate of thousandths, as a percentage.
+pub fn percentage(rebate: u64) -> String {
+    format!("{}.{}%", rebate / 10, rebate % 10)
+}
+
+#[cfg(test)]
+mod tests {
+    use super::*;
+
+    fn order(wanted: u64, unwanted: u64, standard: u64) -> Order {
+        Order { wanted, unwanted, standard }
+    }
+
+    /// The bill over options with these names.
+    fn of<const N: usize>(
+        (total, due, choice): (u64, u64, u64),
+        order: Order,
+        (cents, rebate): ([u64; N], u64),
+        names: [&str; N],
+    ) -> String {
+        let prices = Prices { cents: cents.to_vec(), rebate };
+        bill(Quote { total, due, choice }, order, &prices, &names.map(str::to_string))
+    }
+
+    /// The drum is wanted, the tank wanted and standard, the roof comes by a rule, the screen is standard, and
+    /// the hall is standard and unwanted. 2.5 % of 6120.20 is 153.005, and 5967.195 is rounded up.
+    #[test]
+    fn fitted_options_and_sums_stand_one_below_the_other() {
+        let prices = ([500_000, 11_020, 9_999_999, 100_000, 1_000], 25);
+        let names = ["drum", "tank", "hall", "leachate_roof", "screen"];
+        let due = "drum           5000.00  wanted\n\
+                   tank            110.20  wanted\n\
+                   leachate_roof  1000.00\n\
+                   screen           10.00  standard\n\
+                   ----------------------\n\
+                   list total     6120.20\n\
+                   rebate 2.5%    -153.00\n\
+                   amount due     5967.20\n";
+        assert_eq!(of((612_020, 596_720, 27), order(3, 4, 22), prices, names), due);
+    }
+
+    /// 0.1 % of 9.00 is 0.009, and 8.991 is rounded down; of 0.01 it is less than half a cent.
+    #[test]
+    fn what_the_rebate_takes_off_is_the_total_less_the_amount_due() {
+        let of_one = |total, due, rebate| {
+            let given = of((total, due, 1), Order::default(), ([total], rebate), ["rebate"]);
+            let (_, sums) = given.split_once("---\n").unwrap();
+            sums.to_string()
+        };
+        let due = "list total    9.00\nrebate 0.1%  -0.01\namount due    8.99\n";
+        assert_eq!(of_one(900, 899, 1), due);
+        let due = "list total   0.01\nrebate 0.1%  0.00\namount due   0.01\n";
+        assert_eq!(of_one(1, 1, 1), due);
+        let due = "list total   9.00\nrebate 0.0%  0.00\namount due   9.00\n";
+        assert_eq!(of_one(900, 900, 0), due);
+        let due = "list total      9.00\nrebate 100.0%  -9.00\namount due      0.00\n";
+        assert_eq!(of_one(900, 0, 1000), due);
+    }
+
+    #[test]
+    fn where_nothing_is_fitted_nothing_is_due() {
+        let due = "(none)\n\
+                   -----------------\n\
+                   list total   0.00\n\
+                   rebate 5.0%  0.00\n\
+                   amount due   0.00\n";
+        assert_eq!(of((0, 0, 0), Order::default(), ([9], 50), ["a"]), due);
+    }
+
+    #[test]
+    fn the_highest_amounts_keep_the_column() {
+        let given = of(
+            (20_000_000, 19_980_000, 3),
+            Order::default(),
+            ([10_000_000, 10_000_000], 1),
+            ["a", "b"],
+        );
+        let due = "a            100000.00\n\
+                   b            100000.00\n\
+                   ----------------------\n\
+                   list total   200000.00\n\
+                   rebate 0.1%    -200.00\n\
+                   amount due   199800.00\n";
+        assert_eq!(given, due);
+    }
+
+    #[test]
+    fn money_has_two_digits_after_the_point_and_a_percentage_one() {
+        let amounts = [0, 5, 99, 100, 10_000_001].map(money);
+        assert_eq!(amounts, ["0.00", "0.05", "0.99", "1.00", "100000.01"]);
+        assert_eq!(
+            [0, 5, 25, 1000, 1001].map(percentage),
+            ["0.0%", "0.5%", "2.5%", "100.0%", "100.1%"]
+        );
+    }
+}
