@@ -1,15 +1,15 @@
 -- The choices that can come of an order are those that keep it, so the best plan of them is that of the cheapest choice; and where it is none, there is no choice, for every
 -- total is in reach.
-use mathlib.Core.Path.{_≡_, refl, sym, ap, ap₂, subst, _∙_}
-use mathlib.Core.Bool.{Bool, true, false, not, _&&_}
+use mathlib.Core.Path.{_≡_, refl, sym, ap, subst, _∙_}
+use mathlib.Core.Bool.{Bool, true, false, not}
 use mathlib.Core.List.{List}
-use mathlib.Core.Logic.{_⊎_, inl, inr, ⊎-elim}
+use mathlib.Core.Logic.{_⊎_, ⊎-elim}
 use mathlib.Core.Option.{some, none}
 use Prim.Native.Nat.{ℕ, _^_, _≤_, _<_}
 use native.Mathlib.Omega.{arith}
 use borrow.Author.Tests.{not-true}
 use lib.Bits.{bitOr}
-use lib.ListN.{length, getD}
+use lib.ListN.{length}
 use Rattle.words.specs.Words.{isZero, has, minus, meets, firstOf, Within}
 use Rattle.words.proofs.Truth.{both-ways, refuted, and-left, and-right, and-both}
 use Rattle.words.proofs.Sets.{within-lt, lt-within, within-trans, or-within, or-within-l, or-within-r, in-or, in-minus, minus-within, minus-out, minus-empty, within-minus, meets-false, meets-false-intro}
@@ -21,12 +21,12 @@ use Rattle.rows.specs.Rows.{clauseWords, clauses}
 use Rattle.book.specs.Limits.{maxClauses}
 use Rattle.narrowing.specs.Narrowing.{Narrowed, Between}
 use Rattle.narrowing.proofs.Opens.{opens-decide}
-use Rattle.cheapest.specs.Cheapest.{listTotal, keeps, least}
+use Rattle.cheapest.specs.Cheapest.{listTotal, keeps}
 use Rattle.cheapest.specs.Meaning.{Before}
 use Rattle.cheapest.proofs.Least.{is-least, is-none}
 use Rattle.cheapest.proofs.Totals.{total-bound}
 use Rattle.blocks.specs.Blocks.{Priced}
-use Rattle.pricing.specs.Promises.{beyond, PlanOf, Improved, Fits, Opened, Searched, Found}
+use Rattle.pricing.specs.Promises.{beyond, Improved, Fits, Opened, Searched, Found}
 use Rattle.pricing.specs.declared.plan.Plan.{Plan}
 
 module _ (n : ℕ) (o : Order) (fits : Fits n o) where

@@ -1,12 +1,12 @@
 -- The highest member of a word, by its leading zeros: a word of 2 ^ k or more, and below 2 ^ (k + 1), has k and nothing above it.
 use mathlib.Core.Path.{_≡_, refl, sym, ap, _∙_}
 use mathlib.Core.Bool.{Bool, true, false}
-use Prim.Native.Nat.{ℕ, suc, _+_, _-_, _^_, _≤_, _<_}
+use Prim.Native.Nat.{ℕ, suc, _-_, _^_, _≤_, _<_}
 use native.Mathlib.Omega.{arith}
 use borrow.Author.Tests.{ltb-true, ltb-false, lt-ltb}
 use lib.Count.{leadingZeros, leading-top}
 use lib.Dec.{ltb}
-use Rattle.words.specs.Words.{has, firstOf, Highest}
+use Rattle.words.specs.Words.{has, Highest}
 use Rattle.words.proofs.Truth.{both-ways, refuted, confirmed}
 use Rattle.words.proofs.Membership.{has-firstOf}
 use Rattle.words.proofs.Sets.{within-lt, lt-within}

@@ -144,6 +144,20 @@ pub fn before_refusal(random: &mut Random) -> (Book, Order) {
     (shapes::option_book(random, options), order)
 }
 
+/// A small book of up to this many options with an order, which may be refused, and in which few options are
+/// wished.
+pub fn plain(random: &mut Random, most: usize) -> (Book, Order) {
+    let book = match random.chance(1, 2) {
+        true => shapes::tiny(random),
+        false => {
+            let options = random.between(6, most);
+            shapes::option_book(random, options)
+        }
+    };
+    let order = some_order(random, book.options);
+    (book, order)
+}
+
 #[cfg(test)]
 mod tests {
     use super::*;

@@ -95,6 +95,25 @@ fn run(path: &str, input: &[u8]) -> std::io::Result<String> {
     Ok(String::from_utf8_lossy(&output.stdout).into_owned())
 }
 
+/// A checker that says the same of every question.
+#[cfg(test)]
+pub struct Says(pub &'static str);
+
+#[cfg(test)]
+impl UnderTest for Says {
+    fn name(&self) -> String {
+        "made".to_string()
+    }
+
+    fn takes(&self, _: &Question) -> bool {
+        true
+    }
+
+    fn printed(&mut self, _: &Question) -> Result<String, String> {
+        Ok(self.0.to_string())
+    }
+}
+
 #[cfg(test)]
 mod tests {
     use super::*;

@@ -2,12 +2,11 @@
 
 use super::prices::{prices, rebate, refused};
 use crate::free::{add, before_refusal, fill, free_and_others, insert, is_wanted};
-use crate::free::{order, refused_order, rule, too_many};
-use crate::orders::some_order;
+use crate::free::{order, plain, refused_order, rule, too_many};
 use crate::question::Cheapest;
 use crate::random::Random;
 use crate::refused::refused_bytes;
-use crate::shapes::{self, distinct, union};
+use crate::shapes::{distinct, union};
 use optbook::bytes::book_bytes;
 use optbook::{first, option, Book, Order, Rule, OPTIONS, RULES};
 
@@ -87,7 +86,7 @@ pub fn cheapest(seed: u64, number: usize) -> Cheapest {
             };
             aimed(random, options, free, round.is_multiple_of(2), false)
         }
-        Sort::Plain => plain(random),
+        Sort::Plain => plain(random, FEW + 2),
         Sort::TooMany => {
             fault = every(2);
             too_many(random, turn / 2, FREE)
@@ -221,19 +220,6 @@ fn last_or_others(random: &mut Random, turn: usize) -> Cheapest {
     let mut prices: Vec<u64> = (0..last).map(|_| random.between(1, 20) as u64).collect();
     prices.push(prices.iter().sum::<u64>() - (turn % 2) as u64);
     Cheapest { book, order: Order::default(), prices, rebate: rebate(random) }
-}
-
-/// A small book with an order, which may be refused, and in which few options are wished.
-fn plain(random: &mut Random) -> (Book, Order) {
-    let book = match random.chance(1, 2) {
-        true => shapes::tiny(random),
-        false => {
-            let options = random.between(6, FEW + 2);
-            shapes::option_book(random, options)
-        }
-    };
-    let order = some_order(random, book.options);
-    (book, order)
 }
 
 #[cfg(test)]

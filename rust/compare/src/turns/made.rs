@@ -2,12 +2,10 @@
 //! wherever it is made.
 
 use crate::free::{add, before_refusal, fill, free_and_others, insert};
-use crate::free::{order, refused_order, rule, too_many};
-use crate::orders::some_order;
+use crate::free::{order, plain, refused_order, rule, too_many};
 use crate::question::Turns;
 use crate::random::Random;
 use crate::refused::refused_bytes;
-use crate::shapes;
 use optbook::bytes::book_bytes;
 use optbook::{Book, Order, Rule, OPTIONS, RULES};
 
@@ -67,7 +65,7 @@ pub fn turns(seed: u64, number: usize) -> Turns {
             aimed(random, options, free, forced, false)
         }
         Sort::Largest => aimed(random, OPTIONS, free, forced, true),
-        Sort::Plain => plain(random),
+        Sort::Plain => plain(random, FREE + 4),
         Sort::TooMany => too_many(random, turn, FREE),
         Sort::RefusedOrder => refused_order(random, turn, FREE),
         Sort::RefusedBook => {
@@ -125,19 +123,6 @@ fn buyers_rule(random: &mut Random, book: &Book, order: Order) -> Rule {
         add(&mut rule, free[index], random.chance(1, 2));
     }
     rule
-}
-
-/// A small book with an order, which may be refused, and in which few options are wished.
-fn plain(random: &mut Random) -> (Book, Order) {
-    let book = match random.chance(1, 2) {
-        true => shapes::tiny(random),
-        false => {
-            let options = random.between(6, FREE + 4);
-            shapes::option_book(random, options)
-        }
-    };
-    let order = some_order(random, book.options);
-    (book, order)
 }
 
 #[cfg(test)]

@@ -92,26 +92,9 @@ pub fn quantified(turns: &Turns) -> Result<String, String> {
 #[cfg(test)]
 mod tests {
     use super::*;
-    use crate::question::Question;
+    use crate::under_test::Says;
     use optbook::bytes::book_bytes;
     use optbook::{Book, Order, Rule};
-
-    /// A checker that says the same of every order.
-    struct Says(&'static str);
-
-    impl UnderTest for Says {
-        fn name(&self) -> String {
-            "made".to_string()
-        }
-
-        fn takes(&self, _: &Question) -> bool {
-            true
-        }
-
-        fn printed(&mut self, _: &Question) -> Result<String, String> {
-            Ok(self.0.to_string())
-        }
-    }
 
     /// Four options and the rules "1 or not 3" and "2 or 4".
     fn made(wanted: u64, unwanted: u64, standard: u64) -> Turns {

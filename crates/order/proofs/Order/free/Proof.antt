@@ -1,6 +1,5 @@
 -- `order::Order::free` meets its contract: what is neither wanted nor unwanted in the completed order. Assumes nothing.
-use mathlib.Core.Path.{_≡_, ap, ap₂, _∙_}
-use Prim.Native.Nat.{ℕ, min}
+use mathlib.Core.Path.{ap, ap₂, _∙_}
 use native.Mathlib.Nat.{min-eq-left}
 use borrow.Author.Needs.{needs}
 use lib.Bits.{bitOr}
