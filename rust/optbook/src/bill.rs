@@ -3,45 +3,61 @@
 
 use crate::engine::Quote;
 use crate::prices::Prices;
+use crate::table::{table, Row};
 use crate::{option, Order};
 
-/// The bill of a quote on an order, over options with these prices and names. What the order wants, or has as
-/// standard, is marked.
-pub fn bill(quote: Quote, order: Order, prices: &Prices, names: &[String]) -> String {
-    let Quote { total, due, choice } = quote;
-    let priced = names.iter().zip(&prices.cents).enumerate();
-    let mut options: Vec<Row> = priced
-        .filter(|(index, _)| choice & option(*index) != 0)
-        .map(|(index, (name, &cents))| (name.clone(), money(cents), mark(order, option(index))))
-        .collect();
-    if options.is_empty() {
-        options.push(("(none)".to_string(), String::new(), ""));
-    }
-    let off = match total - due {
-        0 => money(0),
-        off => format!("-{}", money(off)),
-    };
-    let sums: [Row; 3] = [
-        ("list total".to_string(), money(total), ""),
-        (format!("rebate {}", percentage(prices.rebate)), off, ""),
-        ("amount due".to_string(), money(due), ""),
-    ];
-
-    let widest = |length: fn(&Row) -> usize| options.iter().chain(&sums).map(length).max();
-    let label_width = widest(|(label, _, _)| label.len()).unwrap_or(0);
-    let amount_width = widest(|(_, amount, _)| amount.len()).unwrap_or(0);
-    let line = |(label, amount, mark): &Row| {
-        let line = format!("{label:label_width$}  {amount:>amount_width$}  {mark}");
-        line.trim_end().to_string() + "\n"
-    };
-    let ruled = "-".repeat(label_width + 2 + amount_width) + "\n";
-    let [options, sums] =
-        [&options[..], &sums].map(|rows| rows.iter().map(line).collect::<String>());
-    options + &ruled + &sums
+/// A quote, and the prices at which it was asked for.
+#[derive(Clone, Copy)]
+pub struct Priced<'a> {
+    pub quote: Quote,
+    pub prices: &'a Prices,
 }
 
-/// A line of a bill: what it is about, an amount, and a mark.
-type Row = (String, String, &'static str);
+/// The bill of a quote on an order, over options with these names. What the order wants, or has as standard,
+/// is marked.
+pub fn bill(priced: Priced, order: Order, names: &[String]) -> String {
+    let row = |(label, cents): (String, [i64; 1])| Row {
+        label,
+        amounts: cents.map(signed),
+        note: String::new(),
+    };
+    table(&fitted([priced], order, names), &sums([priced]).map(row))
+}
+
+/// A row for each option that some of these quotes fit, with its price, or a dash, in the column of each.
+pub fn fitted<const COLUMNS: usize>(
+    columns: [Priced; COLUMNS],
+    order: Order,
+    names: &[String],
+) -> Vec<Row<COLUMNS>> {
+    let row = |(index, name): (usize, &String)| {
+        let amounts = columns.map(|Priced { quote, prices }| {
+            (quote.choice & option(index) != 0).then(|| money(prices.cents[index]))
+        });
+        let is_fitted = amounts.iter().any(Option::is_some);
+        is_fitted.then(|| Row {
+            label: name.clone(),
+            amounts: amounts.map(|amount| amount.unwrap_or("-".to_string())),
+            note: mark(order, option(index)).to_string(),
+        })
+    };
+    let mut rows: Vec<_> = names.iter().enumerate().filter_map(row).collect();
+    if rows.is_empty() {
+        let amounts = columns.map(|_| String::new());
+        rows.push(Row { label: "(none)".to_string(), amounts, note: String::new() });
+    }
+    rows
+}
+
+/// The sums of these quotes in cents, each with its label: the list total, what the rebate takes off, and the
+/// amount due. All of them have one rebate, and no quoted total is above that of 64 highest prices.
+pub fn sums<const COLUMNS: usize>(columns: [Priced; COLUMNS]) -> [(String, [i64; COLUMNS]); 3] {
+    let rebate = format!("rebate {}", percentage(columns[0].prices.rebate));
+    let total = columns.map(|column| column.quote.total as i64);
+    let due = columns.map(|column| column.quote.due as i64);
+    let off = columns.map(|Priced { quote, .. }| -((quote.total - quote.due) as i64));
+    [("list total".to_string(), total), (rebate, off), ("amount due".to_string(), due)]
+}
 
 /// How the order asks for an option that is fitted.
 fn mark(order: Order, option: u64) -> &'static str {
@@ -57,6 +73,12 @@ fn mark(order: Order, option: u64) -> &'static str {
 /// An amount of cents, with a point before the last two digits.
 pub fn money(cents: u64) -> String {
     format!("{}.{:02}", cents / 100, cents % 100)
+}
+
+/// An amount of cents that may be below zero.
+pub fn signed(cents: i64) -> String {
+    let sign = if cents < 0 { "-" } else { "" };
+    format!("{sign}{}", money(cents.unsigned_abs()))
 }
 
 /// A rebate of thousandths, as a percentage.
@@ -80,7 +102,8 @@ mod tests {
         names: [&str; N],
     ) -> String {
         let prices = Prices { cents: cents.to_vec(), rebate };
-        bill(Quote { total, due, choice }, order, &prices, &names.map(str::to_string))
+        let priced = Priced { quote: Quote { total, due, choice }, prices: &prices };
+        bill(priced, order, &names.map(str::to_string))
     }
 
     /// The drum is wanted, the tank wanted and standard, the roof comes by a rule, the screen is standard, and
@@ -149,6 +172,7 @@ mod tests {
     fn money_has_two_digits_after_the_point_and_a_percentage_one() {
         let amounts = [0, 5, 99, 100, 10_000_001].map(money);
         assert_eq!(amounts, ["0.00", "0.05", "0.99", "1.00", "100000.01"]);
+        assert_eq!([0, 5, -5, -99, -100].map(signed), ["0.00", "0.05", "-0.05", "-0.99", "-1.00"]);
         assert_eq!(
             [0, 5, 25, 1000, 1001].map(percentage),
             ["0.0%", "0.5%", "2.5%", "100.0%", "100.1%"]

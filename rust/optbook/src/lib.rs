@@ -6,7 +6,8 @@
 //! turns with a buyer, and the cheapest plant, `outcome` tells what it found with the options' names, and
 //! `explain` looks for the reason of a `cannot`. `desk` is the library's desk, `session` what is done at it,
 //! and `command` reads what is asked for there. `join` has the names and the places of two books that the
-//! library joined. `prices` reads what the options cost, and `bill` sets out what a plant costs.
+//! library joined. `prices` reads what the options cost, `bill` sets out what a plant costs, `side_by_side`
+//! two quotes of which one has another price for an option, and `table` has the layout of both.
 
 pub mod bill;
 pub mod bytes;
@@ -23,6 +24,8 @@ pub mod outcome;
 pub mod prices;
 pub mod session;
 pub mod sheet;
+pub mod side_by_side;
+pub mod table;
 pub mod text;
 
 pub use optcheck::Order;

@@ -38,6 +38,19 @@ impl Prices {
         }
         reader.finish().map_err(|what| mistake(last, what))
     }
+
+    /// The index of the option with this name, and the prices where it alone has another, this amount.
+    pub fn what_if(
+        &self,
+        sheet: &Sheet,
+        name: &str,
+        amount: &str,
+    ) -> Result<(usize, Prices), String> {
+        let index = number(sheet.find(name)?) as usize - 1;
+        let mut prices = self.clone();
+        prices.cents[index] = cents(amount)?;
+        Ok((index, prices))
+    }
 }
 
 /// What was read so far of prices for a sheet's options.
@@ -254,6 +267,28 @@ mod tests {
         }
         let twice = read("rebate: 0\nprice: a 1\nrebate: 0\n");
         assert_eq!(twice, Err("p: line 3: a second `rebate:` line: expected one".to_string()));
+    }
+
+    #[test]
+    fn what_if_gives_one_option_another_price() {
+        let sheet = Sheet::of("b", "options: a b rebate\n").unwrap();
+        let prices = |cents: [u64; 3]| Prices { cents: cents.to_vec(), rebate: 25 };
+        let of = |name, amount| prices([1, 2, 3]).what_if(&sheet, name, amount);
+        assert_eq!(of("a", "0"), Ok((0, prices([0, 2, 3]))));
+        assert_eq!(of("b", "2"), Ok((1, prices([1, 2, 3]))));
+        assert_eq!(of("rebate", "100000.01"), Ok((2, prices([1, 2, 10_000_001]))));
+        let unknown = "no option is named `c`: expected a name of an `options:` line";
+        assert_eq!(of("c", "1.5"), Err(unknown.to_string()));
+        let expected = "expected letters, digits and underscores, with no digit first";
+        let no_name = format!("`b ` is no option's name: {expected}");
+        assert_eq!(of("b ", "1"), Err(no_name));
+        for amount in ["1.5", "1=2", "-1", " 1", "1 "] {
+            let expected =
+                "expected cents, as in 125000, or two digits after a point, as in 1250.00";
+            assert_eq!(of("b", amount), Err(format!("`{amount}` is no amount: {expected}")));
+        }
+        let large = "`18446744073709551616` does not fit 64 bits: expected at most 10000000 cents";
+        assert_eq!(of("b", "18446744073709551616"), Err(large.to_string()));
     }
 
     #[test]

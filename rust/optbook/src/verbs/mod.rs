@@ -80,8 +80,8 @@ const FORM: &str = "
 BOOK and ORDER are readable texts, which are read one after the other; - is standard input. ORDERS
 are several such texts, each read after BOOK, and NAMES are names of options; FILE of desk has commands.
 FIRST and SECOND of join are two books, and PAIRS are NAME=NAME, a name of the one and one of the other.
-PRICES of cheapest is a text of prices, as its help shows. `optbook VERB --help` tells more of a verb. A
-text has one thing a line:
+PRICES of cheapest is a text of prices, as its help shows, and NAME=PRICE an option and what it would cost.
+`optbook VERB --help` tells more of a verb. A text has one thing a line:
 
   options: ring_main twin_header third_vessel
   ring_main | twin_header | !third_vessel      # a rule; ! says left out

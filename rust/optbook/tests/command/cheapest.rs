@@ -7,17 +7,22 @@ use optbook::Order;
 
 const CAN_BE: &str =
     "can be built: no choice of options that keeps every rule and wish costs less than this one\n";
-const CANNOT_BE: &str = "cannot be built: no choice of options keeps every rule and wish\n";
+pub const CANNOT_BE: &str = "cannot be built: no choice of options keeps every rule and wish\n";
 
 /// A book with its order in one text, and an empty order beside it.
 fn cheapest(text: &str, name: &str, prices: &str) -> Ended {
+    cheapest_with(text, name, prices, &[])
+}
+
+/// The same, with these words more.
+pub fn cheapest_with(text: &str, name: &str, prices: &str, more: &[&str]) -> Ended {
     let [empty, prices] = [("order", ""), ("prices", prices)]
         .map(|(kind, text)| file(&format!("cheapest_{name}.{kind}"), text));
-    optbook(&["cheapest", "-", &empty, &prices], text.as_bytes())
+    optbook(&[&["cheapest", "-", &empty, &prices], more].concat(), text.as_bytes())
 }
 
 /// What is printed, and the status.
-fn told(ended: &Ended) -> (&str, i32) {
+pub fn told(ended: &Ended) -> (&str, i32) {
     assert_eq!(ended.said, "");
     (ended.text(), ended.status)
 }
@@ -200,7 +205,7 @@ fn what_is_said_of_small_books_is_what_trying_all_choices_shows() {
 
 /// A book of six options, of which one is standard and one, maybe the same, wanted or unwanted, and three to
 /// eight rules of two or three entries; with prices of 0 to 3 cents or to the highest, and a rebate.
-fn small_book(number: u64) -> (String, [u64; 6], u64) {
+pub fn small_book(number: u64) -> (String, [u64; 6], u64) {
     let mut state = number;
     let mut next = |below: u64| {
         state = state.wrapping_mul(6364136223846793005).wrapping_add(1442695040888963407);

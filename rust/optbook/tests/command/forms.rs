@@ -217,6 +217,22 @@ fn a_mistake_in_the_prices_is_told() {
 }
 
 #[test]
+fn a_mistake_in_a_price_that_would_be_is_told() {
+    let amount = "expected cents, as in 125000, or two digits after a point, as in 1250.00";
+    let due = [
+        ("dram=7", "no option is named `dram`: expected a name of an `options:` line"),
+        ("drum=7.5", &format!("`7.5` is no amount: {amount}")),
+        ("drum=7=8", &format!("`7=8` is no amount: {amount}")),
+        ("drum=7\n8", &format!("`7?8` is no amount: {amount}")),
+    ];
+    for (word, what) in due {
+        let ended = optbook(&["cheapest", PLANT, CAN, PRICES, "--what-if", word], b"");
+        assert_eq!((ended.said, ended.status), (format!("optbook: --what-if: {what}\n"), 65));
+        assert!(ended.printed.is_empty());
+    }
+}
+
+#[test]
 fn what_cannot_be_read_is_told_with_its_file() {
     let ended = optbook(&["bytes", "no-such-file"], b"");
     assert!(ended.said.starts_with("optbook: no-such-file: "), "{}", ended.said);
@@ -291,6 +307,26 @@ fn a_bad_command_line_ends_with_64_and_says_how() {
         (&["cheapest", PLANT, CAN, PRICES, PRICES], "4 files are given: expected 3"),
         (&["cheapest", PLANT, "-", "-"], "`-` stands twice: standard input is read once"),
         (&["cheapest", PLANT, CAN, PRICES, "--rebate", "5"], "`--rebate` is unknown here"),
+        (
+            &["cheapest", PLANT, CAN, PRICES, "--what-if"],
+            "nothing stands after `--what-if`: expected its value",
+        ),
+        (
+            &["cheapest", PLANT, CAN, PRICES, "--what-if", "drum=7", "--what-if", "roof=7"],
+            "`--what-if` is given twice: expected it once",
+        ),
+        (
+            &["cheapest", "no-such-file", CAN, PRICES, "--what-if", "drum"],
+            "`--what-if drum`: expected NAME=PRICE, an option and what it would cost",
+        ),
+        (
+            &["cheapest", PLANT, CAN, PRICES, "--what-if", "drum="],
+            "`--what-if drum=`: expected NAME=PRICE, an option and what it would cost",
+        ),
+        (
+            &["cheapest", PLANT, CAN, PRICES, "--what-if", "=7"],
+            "`--what-if =7`: expected NAME=PRICE, an option and what it would cost",
+        ),
         (&["check", PLANT, "--same-names"], "`--same-names` is unknown here"),
         (&["check", "-", "-"], "`-` stands twice: standard input is read once"),
         (&["bytes", PLANT, "--places", "1"], "`--places` is unknown here"),
@@ -343,6 +379,7 @@ fn without_the_library_nothing_is_answered() {
     let others = [
         &["join", DOSING, DRYING, "cabinet=panel", "--same-names"][..],
         &["cheapest", PLANT, CAN, PRICES],
+        &["cheapest", PLANT, CAN, PRICES, "--what-if", "drum=7"],
     ];
     for words in others {
         let ended = optbook(words, b"");

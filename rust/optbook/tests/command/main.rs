@@ -20,3 +20,5 @@ mod run;
 mod sites;
 #[cfg(feature = "proved")]
 mod turns;
+#[cfg(feature = "proved")]
+mod what_if;
