@@ -1,10 +1,11 @@
 //! Generated questions for the cheapest plant, answered by the checker under test and by the port, which tries
 //! all choices; the places that are lent are looked at in lent/cheapest.rs. What an answer means (meaning.rs) is
 //! held to all choices of small books, to the checker's own check of the order, to its answers to questions that
-//! follow from it, and to an outside optimiser, where there is one.
+//! follow from it, to its answers where one price rises (moved/), and to an outside optimiser, where there is one.
 
 mod made;
 mod meaning;
+mod moved;
 mod prices;
 mod run;
 mod sorts;
@@ -32,8 +33,8 @@ const OPTIMISED: usize = 100;
 const REFUSALS: [u32; 11] = [1, 2, 3, 4, 5, 6, 7, 8, 12, 17, 18];
 
 /// What was compared: the questions by their endings, numbers of free options and sorts; of how many all choices
-/// were tried, what the checker's own checks said, and how many questions followed; and what the optimiser said,
-/// or why it said nothing.
+/// were tried, what the checker's own checks said, how many questions followed, and which prices rose; and what
+/// the optimiser said, or why it said nothing.
 #[derive(Debug, Default)]
 pub struct Tally {
     questions: usize,
@@ -43,6 +44,7 @@ pub struct Tally {
     tried: usize,
     checks: BTreeMap<Built, usize>,
     following: usize,
+    moved: moved::Tally,
     optimised: BTreeMap<bool, usize>,
     no_optimiser: Option<String>,
 }
@@ -70,9 +72,14 @@ pub fn run(
     let mut tally = Tally { no_optimiser, ..Tally::default() };
     for number in 0..questions {
         let asked = cheapest(seed, number);
-        compare(tested, outside, &asked, &mut tally).map_err(|difference| {
-            format!("cheapest {number} of seed {seed}: {difference}\n{}", asked.told())
-        })?;
+        let quoted = asked.port_quoted();
+        let run = Run::new(&asked, &quoted);
+        let rises = moved::rises(seed, number, &run);
+        compare(tested, outside, &run, &mut tally)
+            .and_then(|()| moved::compare(tested, &run, &rises, &mut tally.moved))
+            .map_err(|difference| {
+                format!("cheapest {number} of seed {seed}: {difference}\n{}", asked.told())
+            })?;
     }
     tally.has_all()?;
     Ok(Some(tally))
@@ -82,14 +89,14 @@ pub fn run(
 fn compare(
     tested: &mut dyn UnderTest,
     outside: Option<Outside>,
-    asked: &Cheapest,
+    run: &Run,
     tally: &mut Tally,
 ) -> Result<(), String> {
-    let quoted = asked.port_quoted();
-    agrees(tested, asked, &quoted)?;
-    if let Ok(quote) = quoted {
-        let book = asked.whole_book().ok_or("an answer to a book that is refused")?;
-        if is_least_of_all(asked, &book, quote)? {
+    let asked = run.asked;
+    agrees(tested, asked, run.quoted)?;
+    if let Ok(quote) = *run.quoted {
+        let book = run.book.as_ref().ok_or("an answer to a book that is refused")?;
+        if is_least_of_all(asked, book, quote)? {
             tally.tried += 1;
         }
         *tally.checks.entry(by_check(tested, asked, quote)?).or_default() += 1;
@@ -101,11 +108,11 @@ fn compare(
             tally.following += 1;
         }
         if let Some(outside) = outside.filter(|_| tally.is_still_optimised()) {
-            confirm(outside, asked, &book, quote)?;
+            confirm(outside, asked, book, quote)?;
             *tally.optimised.entry(quote.is_some()).or_default() += 1;
         }
     }
-    tally.add(asked, &quoted);
+    tally.add(run);
     Ok(())
 }
 
@@ -181,21 +188,20 @@ impl Tally {
         self.optimised.values().sum::<usize>() < OPTIMISED
     }
 
-    fn add(&mut self, asked: &Cheapest, quoted: &Quoted) {
+    fn add(&mut self, run: &Run) {
         self.questions += 1;
-        *self.endings.entry(ending(quoted)).or_default() += 1;
-        let run = Run::new(asked, quoted);
-        if let Some(number) = number(&run) {
+        *self.endings.entry(ending(run.quoted)).or_default() += 1;
+        if let Some(number) = number(run) {
             *self.numbers.entry(number).or_default() += 1;
         }
-        for (name, _) in SORTS.iter().filter(|(_, is_such)| is_such(&run)) {
+        for (name, _) in SORTS.iter().filter(|(_, is_such)| is_such(run)) {
             *self.sorts.entry(name).or_default() += 1;
         }
     }
 
-    /// Each ending, number of free options, sort and verdict of a check by its name, and how often it was seen;
-    /// and, where there is an optimiser, each of its verdicts.
-    fn counts(&self) -> [Vec<(String, usize)>; 5] {
+    /// Each ending, number of free options, sort, verdict of a check and sort of a rise by its name, and how often
+    /// it was seen; and, where there is an optimiser, each of its verdicts.
+    fn counts(&self) -> [Vec<(String, usize)>; 6] {
         let count = |count: Option<&usize>| count.copied().unwrap_or(0);
         let ending = |ending: String| (ending.clone(), count(self.endings.get(&ending)));
         let number = |number: String| (number.clone(), count(self.numbers.get(&number)));
@@ -209,6 +215,7 @@ impl Tally {
             numbers().into_iter().map(number).collect(),
             SORTS.iter().map(|(name, _)| sort(name)).collect(),
             vec![check("can and found", Built::Can), check("cannot and none", Built::Cannot)],
+            self.moved.counts(),
             if self.no_optimiser.is_none() { optimised } else { Vec::new() },
         ]
     }
@@ -223,7 +230,7 @@ impl Tally {
 
     /// So many questions, of which endings and sorts, and what others said of them.
     pub fn told(&self) -> String {
-        let [endings, numbers, sorts, checks, optimised] = self.counts().map(|counts| {
+        let [endings, numbers, sorts, checks, moved, optimised] = self.counts().map(|counts| {
             let told = counts.iter().map(|(name, count)| format!("{name} {count}"));
             told.collect::<Vec<String>>().join(", ")
         });
@@ -237,11 +244,20 @@ impl Tally {
              cheapest plants by all choices too: {}\n\
              cheapest plants by a check of the order too: {checks}, stopped {stopped}\n\
              questions that follow: {}\n\
+             prices moved {}: {moved}\n\
+             moved options left out or not by all choices too: {}\n\
              cheapest plants by the outside optimiser too: {optimised}\n",
-            "cheapest plants", self.questions, self.tried, self.following
+            "cheapest plants",
+            self.questions,
+            self.tried,
+            self.following,
+            self.moved.rises,
+            self.moved.tried
         )
     }
 }
 
+#[cfg(test)]
+mod readings;
 #[cfg(test)]
 mod tests;

@@ -1,107 +1,30 @@
 //! The comparison of cheapest plants sees each wrong reading of them.
 
 use super::prices::{PRICE, REBATE};
+use super::readings::{by_branches, Made, Reading, RIGHT};
 use super::*;
-use crate::question::{Check, Question};
 use crate::under_test::{Port, Program};
-use optbook::{first, Order};
+use optbook::Order;
 use port::Outcome;
 use std::cell::RefCell;
 use std::collections::HashMap;
-
-/// A checker made of a function for cheapest plants and one for a check.
-struct Made {
-    cheapest: Box<dyn Fn(&Cheapest) -> Quoted>,
-    check: fn(&Check) -> Outcome,
-}
-
-impl UnderTest for Made {
-    fn name(&self) -> String {
-        "made".to_string()
-    }
-
-    fn takes(&self, question: &Question) -> bool {
-        matches!(question, Question::Check(_) | Question::Cheapest(_))
-    }
-
-    fn printed(&mut self, question: &Question) -> Result<String, String> {
-        match question {
-            Question::Check(check) => Ok((self.check)(check).to_string()),
-            Question::Cheapest(asked) => Ok(quoted_text(&(self.cheapest)(asked))),
-            _ => Err("neither a check nor a cheapest plant".to_string()),
-        }
-    }
-}
-
-/// With more free options than these a reading gives the right answer: all choices would take too long.
-const TRIED: u32 = 14;
-
-/// A total and its choice.
-type Found = (u64, u64);
-
-/// How a cheapest plant may be read: what is refused, which options are wanted and which unwanted, which of the
-/// fitted ones are paid for, whether the next of the choices in ascending order is a better one, and what is due.
-#[derive(Clone, Copy)]
-struct Reading {
-    refused: fn(&Cheapest) -> Option<u32>,
-    wanted: fn(Order) -> u64,
-    unwanted: fn(Order) -> u64,
-    paid: fn(Order, u64) -> u64,
-    is_better: fn(Found, Found) -> bool,
-    due: fn(u64, u64) -> u64,
-}
-
-const RIGHT: Reading = Reading {
-    refused: |asked| asked.by_branches().err(),
-    wanted: |order| order.completed().wanted,
-    unwanted: |order| order.unwanted,
-    paid: |_, choice| choice,
-    is_better: |next, best| next.0 < best.0,
-    due: |total, rebate| (total * REBATE.saturating_sub(rebate) + 500) / 1000,
-};
-
-impl Reading {
-    fn quoted(&self, asked: &Cheapest) -> Quoted {
-        if let Some(number) = (self.refused)(asked) {
-            return Err(number);
-        }
-        let (book, order) = (asked.whole_book().unwrap(), asked.order);
-        let (wanted, unwanted) = ((self.wanted)(order), (self.unwanted)(order));
-        let free = first(book.options) & !(wanted | unwanted);
-        if free.count_ones() > TRIED {
-            return asked.by_branches();
-        }
-        let (mut best, mut fitted): (Option<Found>, u64) = (None, 0);
-        loop {
-            let choice = wanted | fitted;
-            if book.rules.iter().all(|rule| rule.is_kept_by(choice)) {
-                let next = (meaning::list_total(asked, (self.paid)(order, choice)), choice);
-                if best.is_none_or(|best| (self.is_better)(next, best)) {
-                    best = Some(next);
-                }
-            }
-            if fitted == free {
-                break;
-            }
-            // The next greater word that has free options alone.
-            fitted = (fitted | !free).wrapping_add(1) & free;
-        }
-        let due = |total| (self.due)(total, asked.rebate);
-        Ok(best.map(|(total, choice)| Quote { total, due: due(total), choice }))
-    }
-}
 
 const NO_OPTIMISER: Result<Outside, String> = Err(String::new());
 
 /// What is told of a checker that answers in this way.
 fn told_of(cheapest: impl Fn(&Cheapest) -> Quoted + 'static) -> String {
-    let mut made = Made { cheapest: Box::new(cheapest), check: Check::port_outcome };
-    run(&mut made, NO_OPTIMISER, 3, LEAST).unwrap_err()
+    run(&mut Made::new(cheapest), NO_OPTIMISER, 3, LEAST).unwrap_err()
 }
 
-/// What is told of a checker that reads cheapest plants in this way.
+/// What is told of a checker that reads cheapest plants in this way, where no price rises.
 fn difference(reading: Reading) -> String {
-    told_of(move |asked| reading.quoted(asked))
+    let mut made = Made::new(move |asked| reading.quoted(asked));
+    let mut told = |number| {
+        let asked = cheapest(3, number);
+        let quoted = asked.port_quoted();
+        compare(&mut made, None, &Run::new(&asked, &quoted), &mut Tally::default()).err()
+    };
+    (0..LEAST).find_map(&mut told).unwrap()
 }
 
 #[test]
@@ -117,8 +40,7 @@ fn every_sort_comes_whatever_the_seed_is() {
 
 #[test]
 fn the_right_reading_is_no_difference() {
-    let cheapest = Box::new(|asked: &Cheapest| RIGHT.quoted(asked));
-    let mut made = Made { cheapest, check: Check::port_outcome };
+    let mut made = Made::new(|asked| RIGHT.quoted(asked));
     assert!(run(&mut made, NO_OPTIMISER, 3, LEAST).unwrap().is_some());
 }
 
@@ -146,8 +68,7 @@ fn each_wrong_choice_is_a_difference() {
     ];
     for (number, reading) in wrong.into_iter().enumerate() {
         let told = difference(reading);
-        assert!(told.contains(": the answers differ: made's line 1 is "), "{number}: {told}");
-        assert!(told.contains("\ncheapest\nbook "), "{number}: {told}");
+        assert!(told.contains("the answers differ: made's line 1 is "), "{number}: {told}");
     }
 }
 
@@ -282,8 +203,8 @@ fn a_refusal_out_of_its_order_is_a_difference() {
 #[test]
 fn a_check_that_does_not_go_with_the_answer_is_told() {
     let told = |check| {
-        let cheapest = Box::new(|asked: &Cheapest| asked.by_branches());
-        run(&mut Made { cheapest, check }, NO_OPTIMISER, 3, LEAST).unwrap_err()
+        let mut made = Made { check, ..by_branches() };
+        run(&mut made, NO_OPTIMISER, 3, LEAST).unwrap_err()
     };
     let cannot = told(|check| Outcome { ending: port::CANNOT, ..check.port_outcome() });
     assert!(
@@ -303,7 +224,7 @@ fn a_wrong_answer_to_what_follows_is_told() {
         false => asked.by_branches(),
     });
     assert!(told.contains(": with no rebate the answers differ: made's line 1 is "), "{told}");
-    assert!(told.contains("\nrebate 0\nwhich follows from\ncheapest\n"), "{told}");
+    assert!(told.contains("\nrebate 0\nwhich follows from\ncheapest\nbook "), "{told}");
 }
 
 #[test]
@@ -342,12 +263,12 @@ fn known(seed: u64) -> HashMap<String, Option<u64>> {
 fn an_outside_optimiser_confirms_or_ends_the_run() {
     let known = known(3);
     let right = |text: &str| Ok(known[text]);
-    let tally = run(&mut Port, Ok(&right), 3, LEAST).unwrap().unwrap();
+    let tally = run(&mut by_branches(), Ok(&right), 3, LEAST).unwrap().unwrap();
     assert_eq!(tally.optimised.values().sum::<usize>(), OPTIMISED);
     assert!(tally.told().contains("\ncheapest plants by the outside optimiser too: can by the "));
     let asks_for_choice = |text: &str| text.lines().last().is_some_and(|line| line.contains(" = "));
     let told = |other: &dyn Fn(&str) -> Result<Option<u64>, String>| {
-        run(&mut Port, Ok(other), 3, LEAST).unwrap_err()
+        run(&mut by_branches(), Ok(other), 3, LEAST).unwrap_err()
     };
     let dearer = told(&|text| Ok(known[text].map(|sum| sum + u64::from(!asks_for_choice(text)))));
     assert!(dearer.contains(": the outside optimiser's total is "), "{dearer}");
@@ -362,7 +283,7 @@ fn an_outside_optimiser_confirms_or_ends_the_run() {
 #[test]
 fn a_missing_optimiser_is_told_and_no_difference() {
     let missing = "no outside optimiser is installed (looked for: clasp)".to_string();
-    let tally = run(&mut Port, Err(missing.clone()), 3, LEAST).unwrap().unwrap();
+    let tally = run(&mut by_branches(), Err(missing.clone()), 3, LEAST).unwrap().unwrap();
     let due = format!("\ncheapest plants by the outside optimiser too: none, {missing}\n");
     assert!(tally.told().ends_with(&due), "{}", tally.told());
 }
@@ -372,9 +293,11 @@ fn a_sort_that_was_not_seen_is_named() {
     let told = |tally: &Tally| tally.has_all().unwrap_err();
     let due = |name: &str| format!("no cheapest plant with `{name}` was seen");
     assert_eq!(told(&Tally::default()), due("can"));
-    let mut tally = run(&mut Port, NO_OPTIMISER, 3, LEAST).unwrap().unwrap();
+    let mut tally = run(&mut by_branches(), NO_OPTIMISER, 3, LEAST).unwrap().unwrap();
     tally.no_optimiser = None;
     assert_eq!(told(&tally), due("can by the optimiser"));
+    tally.moved = moved::Tally::default();
+    assert_eq!(told(&tally), due("all of a rise"));
     tally.checks.remove(&Built::Cannot);
     assert_eq!(told(&tally), due("cannot and none"));
     tally.sorts.remove("a half");

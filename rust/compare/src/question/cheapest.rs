@@ -1,7 +1,7 @@
 //! An order whose cheapest plant is looked for, at list prices and with a rebate.
 
 use super::of_port;
-use crate::fields::{list, numbers, order, values};
+use crate::fields::{key_and_value, list, numbers, order, values};
 use crate::hex::{bytes, hex};
 use optbook::bytes::{input_bytes, read_input};
 use optbook::{first, option, Book, Order, OPTIONS};
@@ -76,6 +76,19 @@ pub fn quoted_text(quoted: &Quoted) -> String {
     }
 }
 
+/// The answer that is printed so; none where it has no meaning.
+pub fn read_quoted(printed: &str) -> Option<Quoted> {
+    match key_and_value(printed.strip_suffix('\n')?) {
+        ("can", words) => {
+            let [total, due, choice] = numbers(words).ok()?;
+            Some(Ok(Some(Quote { total, due, choice })))
+        }
+        ("cannot", "") => Some(Ok(None)),
+        ("refused", number) => Some(Err(number.parse().ok()?)),
+        _ => None,
+    }
+}
+
 #[cfg(test)]
 mod tests {
     use super::*;
@@ -137,5 +150,15 @@ mod tests {
         assert_eq!(quoted_text(&Ok(None)), "cannot\n");
         let order = Order { standard: 32, ..cheapest.order };
         assert_eq!(quoted_text(&Cheapest { order, ..cheapest }.port_quoted()), "refused 12\n");
+    }
+
+    #[test]
+    fn an_answer_reads_back_and_another_line_does_not() {
+        for quoted in [Ok(Some(Quote { total: 70, due: 69, choice: 18 })), Ok(None), Err(12)] {
+            assert_eq!(read_quoted(&quoted_text(&quoted)), Some(quoted));
+        }
+        for line in ["", "can 1 2\n", "can 1 2 3", "can 1 2 3 4\n", "cannot 1\n", "refused\n"] {
+            assert_eq!(read_quoted(line), None, "{line}");
+        }
     }
 }

@@ -14,7 +14,7 @@ mod state;
 mod terminal;
 mod turns;
 
-pub use cheapest::{quoted_text, Cheapest, Quoted};
+pub use cheapest::{quoted_text, read_quoted, Cheapest, Quoted};
 pub use check::{Check, ORDER};
 pub use desk::{answers_text, Answers, Desk};
 pub use join::{joined_text, Join, Joined};
