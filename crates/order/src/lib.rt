@@ -28,7 +28,7 @@ impl Order {
         }
     }
 
-    // The free options among the first `vars`.
+    // The free options among the first `vars`. Public for the crates that settle them, whose books have no more than 64 options.
     pub fn free(self, vars: u32) -> u64
         requires { ⌜ vars ≤ 64 ⌝ }
         ensures { λ r. ⌜ r ≡ Free vars (orderOf self) ⌝ }

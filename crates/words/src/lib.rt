@@ -12,7 +12,7 @@ pub fn lowest_var(x: u64) -> u32
     u64::trailing_zeros(x)
 }
 
-// The number of the highest member of x.
+// The number of the highest member of x. Public for crate `pricing`, which shows that x has one.
 pub fn highest_var(x: u64) -> u32
     requires { ⌜ 0 < x ⌝ }
     ensures { λ r. ⌜ Highest x r ⌝ }
