@@ -25,7 +25,7 @@ use Rattle.book.proofs.Refusals.{first-none, none-here, none-later, fir
 use Rattle.book.proofs.Tests.{five, six, none-sizes, none-rest, rule-passed}
 use Rattle.book.proofs.Bytes.{length-clausesIn}
 use Rattle.book.proofs.Readings.{judged-book, judged-refused, refused-by, book-by, whole, sizes, read-rules, exact, tableRows}
-use Rattle.book.proofs.Orders.{within-above, above-within, order-input, order-few, same-passes}
+use Rattle.book.proofs.Orders.{within-above, above-within, Consistent, passed-consistent, order-input, order-few, same-passes}
 
 -- ---- the clauses
 
@@ -155,12 +155,14 @@ table-book n m t n′ cs e =
       };
     })
 
--- a book and an order that were admitted: with the order completed an input of the steps, with at most as many order clauses as variables
+-- a book and an order that were admitted: with the order completed, in which no option is wanted and unwanted, an input of the steps, with at most as many order clauses as
+-- variables
 pub record Admitted (bytes : List ℕ) (o : Order) (n : ℕ) (cs : List Clause) : Type 0 where
   pub vars-are : varsIn bytes ≡ n
   pub clauses-are : rulesIn bytes ≡ cs
   pub no-row : firstRow (admitRows bytes o) ≡ none
   pub well-formed : WellFormed n cs
+  pub consistent : Consistent n (complete o)
   pub input : Input n cs (complete o)
   pub few : length (units (complete o)) ≤ n
 
@@ -176,6 +178,7 @@ none-admitted bytes o e =
       clauses-are = refl;
       no-row = e;
       well-formed = passed-formed bytes p;
+      consistent = passed-consistent (varsIn bytes) o order-rows;
       input = order-input (varsIn bytes) o order-rows (rulesIn bytes) (p .proper);
       few = order-few (varsIn bytes) o order-rows;
     }

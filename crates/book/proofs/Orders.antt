@@ -44,7 +44,7 @@ pub record Consistent (n : ℕ) (a : Assumptions) : Type 0 where
 
 module _ (n : ℕ) (o : Order) where
   -- an order that no row refuses completes to such assumptions
-  passed-consistent : firstRow (orderRows n o) ≡ none → Consistent n (complete o)
+  pub passed-consistent : firstRow (orderRows n o) ≡ none → Consistent n (complete o)
   passed-consistent e =
       let p = none-ordered n o e in
       let named = within-above n (o .wanted) (o .unwanted) (p .below) in

@@ -3,6 +3,7 @@
 use mathlib.Core.Path.{_≡_, refl, sym, ap, ap₂, subst, _∙_}
 use mathlib.Core.Bool.{Bool, true, false}
 use mathlib.Core.List.{List, [], _∷_, _++_, map, append-assoc, append-nil, List·Memᴰ·head, List·Memᴰ·tail}
+use mathlib.Core.Option.{none}
 use Prim.Native.Nat.{ℕ, zero, suc, _+_, _*_, _/_, _%_, _^_, _≤_, _<_}
 use native.Mathlib.Nat.{pow-succ', lt-of-lt-of-le, mod-eq-of-lt}
 use native.Mathlib.Omega.{arith}
@@ -15,12 +16,16 @@ use Rattle.words.specs.Words.{firstOf, Within}
 use Rattle.words.proofs.Sets.{within-trans, or-within-l, or-within-r, within-lt}
 use Rattle.steps.specs.Clause.{Clause, literals, vars}
 use Rattle.steps.specs.Shape.{Proper, AllProper}
+use Rattle.order.specs.Order.{Order}
 use Rattle.book.specs.Limits.{maxVars, maxClauses}
 use Rattle.book.specs.Bytes.{AllBytes, number, bytesOf, wordsIn, pair, varsIn, countIn, clausesIn, rulesIn, flat, encode}
-use Rattle.book.specs.Reading.{Reading.book}
+use Rattle.book.specs.Refusals.{firstRow, bookRows, orderRows, admitRows}
+use Rattle.book.specs.Reading.{Reading.book, read, WellFormed}
 use Rattle.book.specs.Demands.{ReadWritten, WrittenRead}
+use Rattle.book.proofs.Refusals.{first-after}
+use Rattle.book.proofs.Readings.{judged-book}
 use Rattle.book.proofs.Bytes.{bytes-drop, length-bytesOf, length-wordsIn, length-clausesIn}
-use Rattle.book.proofs.Accepted.{passed-read, bytes-book}
+use Rattle.book.proofs.Accepted.{passed-read, FromBytes, bytes-book}
 use Rattle.book.proofs.Encoding.{length-column, length-encode}
 
 -- a number from its bytes
@@ -148,6 +153,19 @@ read-written n cs w =
       proper = subst (AllProper n) (sym rules) (w .proper);
     })
     ∙ ap (book n) rules
+
+-- the options and rules in a book's bytes
+pub written-holds : (n : ℕ) (cs : List Clause) → WellFormed n cs → FromBytes (encode n cs) n cs
+written-holds n cs w = bytes-book (encode n cs) n cs (sym (read-written n cs w))
+
+-- with an order that passes no row refuses them
+pub written-admitted : (n : ℕ) (cs : List Clause) (o : Order) → WellFormed n cs → firstRow (orderRows n o) ≡ none → firstRow (admitRows (encode n cs) o) ≡ none
+unfolding admitRows read
+written-admitted n cs o w passes =
+    let bs = encode n cs in
+    first-after (bookRows bs) (orderRows (varsIn bs) o) (judged-book (firstRow (bookRows bs)) (varsIn bs) n (rulesIn bs) cs (read-written n cs w) .0)
+    ∙ ap (λ k. firstRow (orderRows k o)) (written-holds n cs w .vars-are)
+    ∙ passes
 
 -- the arrays of a book that was read
 arrays-read : (m : ℕ) (bs : List ℕ) → AllBytes bs → length bs ≡ 3 + 16 * m

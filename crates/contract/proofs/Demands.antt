@@ -13,19 +13,19 @@ use Rattle.words.proofs.Truth.{clash}
 use Rattle.steps.specs.Clause.{Clause}
 use Rattle.steps.specs.State.{Ending, Ending.can, Ending.cannot, Ending.outOfBranchings, Ending.outOfClauses}
 use Rattle.steps.specs.Run.{Outcome, run}
+use Rattle.steps.specs.Meaning.{Buildable}
 use Rattle.steps.specs.Demands as steps
 use Rattle.steps.proofs.Allowances as allowances
 use Rattle.steps.proofs.Bound as steps-bound
 use Rattle.order.specs.Order.{Order, complete}
 use Rattle.book.specs.Bytes.{varsIn, rulesIn, encode}
-use Rattle.book.specs.Refusals.{firstRow, ruleRows, bookRows, orderRows, admitRows}
+use Rattle.book.specs.Refusals.{firstRow, ruleRows, orderRows, admitRows}
 use Rattle.book.specs.Conditions.{ruleConditions, orderConditions}
-use Rattle.book.specs.Reading.{Reading.book, read}
-use Rattle.book.proofs.Refusals.{first-after, none-iff}
+use Rattle.book.specs.Reading.{WellFormed}
+use Rattle.book.proofs.Refusals.{none-iff}
 use Rattle.book.proofs.Conditions.{rules-decide, order-decides}
-use Rattle.book.proofs.Readings.{judged-book}
-use Rattle.book.proofs.Accepted.{rules-proper, FromBytes, bytes-book}
-use Rattle.book.proofs.RoundTrip.{read-written}
+use Rattle.book.proofs.Accepted.{rules-proper, FromBytes}
+use Rattle.book.proofs.RoundTrip.{written-holds, written-admitted}
 use Rattle.answer.specs.Answer.{tallyOf, endOf}
 use Rattle.answer.specs.Packed.{Packable}
 use Rattle.answer.specs.declared.Tally.{Tally}
@@ -92,31 +92,24 @@ checked-fits bytes o allowance before after r checked h = subst⁻¹ Packable (c
 -- ---- the limits
 
 pub limits-pass : LimitsPass
-unfolding admitRows read
 limits-pass rules o count faultless ordered allowance =
-    admitted-ran bytes o allowance _ admitted (record { same = refl; few = omega arith; decided = omega arith; trues = omega arith; redundant = omega arith })
-    ∙ ap₂ (λ (n : ℕ) (cs : List Clause). ran (run n cs (complete o) allowance 2048)) (from .vars-are) (from .clauses-are)
+    admitted-ran bytes o allowance _ (written-admitted 64 rules o formed (none-iff (orderRows 64 o) (orderConditions 64 o) (order-decides 64 o) .1 ordered))
+    (record { same = refl; few = omega arith; decided = omega arith; trues = omega arith; redundant = omega arith })
+    ∙ ap₂ (λ (n : ℕ) (cs : List Clause). ran (run n cs (complete o) allowance 2048)) (holds .vars-are) (holds .clauses-are)
   where
     bytes : List ℕ
     bytes = encode 64 rules
 
-    is : read bytes ≡ book 64 rules
-    is =
-        read-written 64 rules
-        (record {
+    formed : WellFormed 64 rules
+    formed =
+        record {
           vars-few = omega arith;
           clauses-few = omega arith;
           proper = rules-proper 64 rules (none-iff (ruleRows 64 rules) (ruleConditions 64 rules) (rules-decide 64 rules) .1 faultless);
-        })
+        }
 
-    from : FromBytes bytes 64 rules
-    from = bytes-book bytes 64 rules (sym is)
-
-    admitted : firstRow (admitRows bytes o) ≡ none
-    admitted =
-        first-after (bookRows bytes) (orderRows (varsIn bytes) o) (judged-book (firstRow (bookRows bytes)) (varsIn bytes) 64 (rulesIn bytes) rules is .0)
-        ∙ ap (λ (n : ℕ). firstRow (orderRows n o)) (from .vars-are)
-        ∙ none-iff (orderRows 64 o) (orderConditions 64 o) (order-decides 64 o) .1 ordered
+    holds : FromBytes bytes 64 rules
+    holds = written-holds 64 rules formed
 
 -- ---- demand 2
 
@@ -164,6 +157,27 @@ outcomes bytes o allowance l h =
       derived = right .derived;
       records = right .records;
     }
+
+-- an answer that is a verdict is that of a run
+pub verdict-ran : (bytes : List ℕ) (o : Order) (allowance : ℕ) (l : Lengths) → IsVerdict (answer bytes o allowance l) → (r : Outcome) × (check bytes o allowance l ≡ ran r)
+unfolding answerOf
+verdict-ran bytes o allowance l v = go (check bytes o allowance l) refl v
+  where
+    go : (x : Result) → check bytes o allowance l ≡ x → IsVerdict (answerOf x) → (r : Outcome) × (check bytes o allowance l ≡ ran r)
+    go (refused k) e v = absurd v
+    go (ran r) e v = (r, e)
+
+-- so whatever else is known of a check, after "can" book and order can be built, and after "cannot" they cannot
+module _ (bytes : List ℕ) (o : Order) (allowance : ℕ) (l : Lengths) (t : Tally) where
+  pub can-built : answer bytes o allowance l ≡ Can t → Buildable (varsIn bytes) (rulesIn bytes) (complete o)
+  can-built e =
+      let r = verdict-ran bytes o allowance l (rw e tt) in
+      outcomes bytes o allowance l (runs bytes o allowance l (r .0) .0 (r .1) .0) .can-only t e
+
+  pub cannot-built : answer bytes o allowance l ≡ Cannot t → Buildable (varsIn bytes) (rulesIn bytes) (complete o) → ⊥
+  cannot-built e =
+      let r = verdict-ran bytes o allowance l (rw e tt) in
+      outcomes bytes o allowance l (runs bytes o allowance l (r .0) .0 (r .1) .0) .cannot-only t e
 
 -- ---- demand 3
 

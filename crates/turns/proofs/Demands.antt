@@ -11,7 +11,7 @@ use borrow.Author.Tests.{not-true, lt-ltb}
 use lib.Bits.{bitOr}
 use lib.ListN.{length}
 use Rattle.words.specs.Words.{isZero, has, minus, meets, firstOf, members, Within}
-use Rattle.words.proofs.Truth.{both-ways, clash, refuted, confirmed, iff, and-left, and-right, and-both}
+use Rattle.words.proofs.Truth.{both-ways, refuted, confirmed, iff, and-left, and-right, and-both}
 use Rattle.words.proofs.Membership.{ext, has-bit-eq, has-firstOf}
 use Rattle.words.proofs.Sets.{within-lt, lt-within, in-or, in-minus, minus-empty, meets-false}
 use Rattle.words.proofs.Lowest.{are-members, members-are}
@@ -21,8 +21,6 @@ use Rattle.order.specs.Order.{Order, complete, free}
 use Rattle.order.proofs.Completed.{completing}
 use Rattle.book.specs.Bytes.{varsIn, rulesIn}
 use Rattle.book.specs.Conditions.{NoRow}
-use Rattle.contract.specs.Check.{Result, Result.refused, Result.ran, check}
-use Rattle.contract.specs.Filled.{answerOf}
 use Rattle.contract.proofs.Demands as contract
 use Rattle.turns.specs.Turns.{Player.buyer, settled, wins, forces, given, response, responses}
 use Rattle.turns.specs.Handed.{Places, places, responseNumber, numberOf, placesIn}
@@ -149,15 +147,10 @@ none-free : NoneFree
 none-free bytes o passes none = record { decides = decides bytes o passes none; only = only-choice bytes o passes none }
 
 never-cannot : NeverCannot
-unfolding answerOf
 never-cannot bytes o x allowance l t e =
     let passes = forced-passes bytes o x in
     let built = some-end (Builds (varsIn bytes) (rulesIn bytes) (complete o)) buyer (freeOptions bytes o) (complete o .pos) (by-turns bytes o passes .0 x) in
-    go (check bytes o allowance l) refl built
-  where
-    go : (r : Result) → check bytes o allowance l ≡ r → (y : ℕ) × Builds (varsIn bytes) (rulesIn bytes) (complete o) y → ⊥
-    go (refused k) c built = clash cc
-    go (ran r) c built = contract.demands .outcomes bytes o allowance l (contract.demands .runs bytes o allowance l r .0 c .0) .cannot-only t e built
+    contract.cannot-built bytes o allowance l t e built
 
 -- ---- the planner's answers
 
