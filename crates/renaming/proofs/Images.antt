@@ -18,7 +18,7 @@ use Rattle.renaming.specs.Demands.{Named, ImageMembers, ImageApart, WayB
 -- ---- one variable more
 
 module _ (f : ℕ → ℕ) (n w : ℕ) where
-  image-in : has w n ≡ true → image f (suc n) w ≡ bitOr (image f n w) (2 ^ f n)
+  pub image-in : has w n ≡ true → image f (suc n) w ≡ bitOr (image f n w) (2 ^ f n)
   unfolding image
   image-in h = rw (h, image)
 
