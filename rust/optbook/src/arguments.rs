@@ -1,4 +1,5 @@
-//! The command line after the verb: files, flags with a value each, and switches, which have none.
+//! The command line after the verb: files, flags with a value each, and switches, which have none. Some flags
+//! may be repeated.
 
 use crate::ending::Failure;
 use std::ops::RangeInclusive;
@@ -14,14 +15,17 @@ pub const ANY: usize = usize::MAX;
 pub struct Arguments {
     pub files: Vec<String>,
     flags: Vec<(String, String)>,
+    repeated: Vec<(String, String)>,
     switches: Vec<String>,
 }
 
 impl Arguments {
-    /// Reads the words of a verb that knows these flags and switches and takes so many files.
+    /// Reads the words of a verb that knows these flags, those that may be repeated and switches, and takes
+    /// so many files. What stands after a flag that may be repeated is no file.
     pub fn read(
         words: &[String],
         flags: &[&str],
+        repeated: &[&str],
         switches: &[&str],
         files: Files,
     ) -> Result<Arguments, Failure> {
@@ -34,13 +38,16 @@ impl Arguments {
                 return usage(format!("`{word}` is given twice: expected it once"));
             } else if switches.contains(&word.as_str()) {
                 read.switches.push(word.clone());
-            } else if flags.contains(&word.as_str()) {
+            } else {
+                let values = match word.as_str() {
+                    flag if flags.contains(&flag) => &mut read.flags,
+                    flag if repeated.contains(&flag) => &mut read.repeated,
+                    _ => return usage(format!("`{word}` is unknown here")),
+                };
                 let Some(value) = words.next() else {
                     return usage(format!("nothing stands after `{word}`: expected its value"));
                 };
-                read.flags.push((word.clone(), value.clone()));
-            } else {
-                return usage(format!("`{word}` is unknown here"));
+                values.push((word.clone(), value.clone()));
             }
         }
         let (least, most) = files;
@@ -61,6 +68,12 @@ impl Arguments {
     /// The value of a flag, where it is given.
     pub fn value(&self, flag: &str) -> Option<&str> {
         self.flags.iter().find(|(name, _)| name == flag).map(|(_, value)| value.as_str())
+    }
+
+    /// The values of a flag that may be repeated, in the sequence in which they are given.
+    pub fn values(&self, flag: &str) -> Vec<&str> {
+        let given = self.repeated.iter().filter(|(name, _)| name == flag);
+        given.map(|(_, value)| value.as_str()).collect()
     }
 
     /// The switch is given.
@@ -96,7 +109,8 @@ mod tests {
 
     fn read(line: &str) -> Result<Arguments, String> {
         let words: Vec<String> = line.split_whitespace().map(str::to_string).collect();
-        let read = Arguments::read(&words, &["--allowance", "--names"], &["--same-names"], (1, 2));
+        let flags = ["--allowance", "--names"];
+        let read = Arguments::read(&words, &flags, &["--pair"], &["--same-names"], (1, 2));
         read.map_err(|failure| failure.to_string())
     }
 
@@ -118,13 +132,32 @@ mod tests {
     }
 
     #[test]
+    fn a_flag_that_may_be_repeated_has_each_value_in_sequence() {
+        let arguments = read("--pair y a --pair x --names n --pair x").unwrap();
+        assert_eq!(arguments.files, ["a"]);
+        assert_eq!(arguments.values("--pair"), ["y", "x", "x"]);
+        assert_eq!((arguments.value("--pair"), arguments.value("--names")), (None, Some("n")));
+        assert!(arguments.values("--names").is_empty());
+        assert!(read("a").unwrap().values("--pair").is_empty());
+    }
+
+    #[test]
+    fn what_stands_after_a_flag_that_may_be_repeated_is_no_file() {
+        let arguments = read("--pair - - --pair -").unwrap();
+        assert_eq!((arguments.files.len(), arguments.values("--pair")), (1, vec!["-", "-"]));
+        assert_eq!(read("a --pair --names").unwrap().values("--pair"), ["--names"]);
+    }
+
+    #[test]
     fn each_bad_command_line_is_told() {
         let due = [
             ("", "0 files are given: expected 1 at least and 2 at most"),
             ("a b c", "3 files are given: expected 1 at least and 2 at most"),
             ("a --places 3", "`--places` is unknown here"),
             ("a --allowance", "nothing stands after `--allowance`: expected its value"),
+            ("a --pair b --pair", "nothing stands after `--pair`: expected its value"),
             ("a --names b --names c", "`--names` is given twice: expected it once"),
+            ("a --pair b --names c --names d", "`--names` is given twice: expected it once"),
             ("a --same-names --same-names", "`--same-names` is given twice: expected it once"),
             ("- -", "`-` stands twice: standard input is read once"),
             ("- --names -", "`-` stands twice: standard input is read once"),
@@ -136,7 +169,7 @@ mod tests {
 
     #[test]
     fn any_number_of_files_has_a_least() {
-        let read = |words: &[String]| Arguments::read(words, &[], &[], (1, ANY));
+        let read = |words: &[String]| Arguments::read(words, &[], &[], &[], (1, ANY));
         let words = vec!["a".to_string(); 20];
         assert_eq!(read(&words).ok().unwrap().files.len(), 20);
         let failure = read(&[]).err().unwrap();

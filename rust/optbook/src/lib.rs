@@ -6,7 +6,8 @@
 //! turns with a buyer, and the cheapest plant, `outcome` tells what it found with the options' names, and
 //! `explain` looks for the reason of a `cannot`. `desk` is the library's desk, `session` what is done at it,
 //! and `command` reads what is asked for there. `join` has the names and the places of two books that the
-//! library joined. `prices` reads what the options cost, `bill` sets out what a plant costs, `side_by_side`
+//! library joined, and `renumber` writes a book and an order anew, with other numbers and with options
+//! reversed. `prices` reads what the options cost, `bill` sets out what a plant costs, `side_by_side`
 //! two quotes of which one has another price for an option, and `table` has the layout of both.
 
 pub mod bill;
@@ -22,6 +23,7 @@ mod lent;
 pub mod mistake;
 pub mod outcome;
 pub mod prices;
+pub mod renumber;
 pub mod session;
 pub mod sheet;
 pub mod side_by_side;

@@ -34,8 +34,9 @@ fn main() {
     if words.iter().any(|word| is_help(word)) {
         print(Printed::text(verb.help()));
     }
-    let arguments = Arguments::read(words, verb.flags, verb.switches, verb.files);
-    match arguments.and_then(|arguments| (verb.run)(&arguments)) {
+    let Verb { flags, repeated, switches, files, run, .. } = *verb;
+    let arguments = Arguments::read(words, flags, repeated, switches, files);
+    match arguments.and_then(|arguments| run(&arguments)) {
         Ok(printed) => print(printed),
         Err(failure) => end(failure, Some(verb)),
     }

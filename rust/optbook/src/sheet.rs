@@ -245,7 +245,7 @@ impl Sheet {
     }
 }
 
-fn check_name(name: &str) -> Result<(), String> {
+pub fn check_name(name: &str) -> Result<(), String> {
     if name == EMPTY_RULE {
         let expected = "expected it alone on its line";
         return Err(format!("`{EMPTY_RULE}` is the empty rule and no option: {expected}"));

@@ -47,6 +47,7 @@ PRICES or NAME=PRICE.
 ",
     files: (3, 3),
     flags: &[WHAT_IF],
+    repeated: &[],
     switches: &[],
     run,
 };

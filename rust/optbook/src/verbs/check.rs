@@ -26,6 +26,7 @@ BOOK or ORDER.
 ",
     files: (1, 2),
     flags: &LIMITS,
+    repeated: &[],
     switches: &[],
     run,
 };

@@ -42,6 +42,7 @@ or, from a file or a pipe, in some line.
 ",
     files: (1, 2),
     flags: &LIMITS,
+    repeated: &[],
     switches: &[],
     run,
 };

@@ -19,6 +19,7 @@ Exit status: 0; 64 bad command line, 65 a mistake in BOOK or ORDER.
 ",
     files: (1, 2),
     flags: &[],
+    repeated: &[],
     switches: &[],
     run,
 };

@@ -36,6 +36,7 @@ a verdict; 64 bad command line, 65 a mistake in BOOK or ORDER.
 ",
     files: (1, 2),
     flags: &LIMITS,
+    repeated: &[],
     switches: &[],
     run,
 };

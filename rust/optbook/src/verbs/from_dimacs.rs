@@ -25,6 +25,7 @@ Exit status: 0; 64 bad command line, 65 a mistake in FILE or BOOK, or more than 
 ",
     files: (1, 1),
     flags: &["--names"],
+    repeated: &[],
     switches: &[],
     run,
 };

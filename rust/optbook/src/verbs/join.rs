@@ -40,6 +40,7 @@ Exit status: 0; 2 refused, 64 bad command line, 65 a mistake in FIRST, SECOND or
 ",
     files: (2, ANY),
     flags: &[],
+    repeated: &[],
     switches: &[SAME_NAMES],
     run,
 };

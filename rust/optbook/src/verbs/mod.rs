@@ -11,6 +11,7 @@ mod join;
 mod morning;
 mod open;
 mod page;
+mod renumber;
 mod sites;
 mod text;
 mod turns;
@@ -29,6 +30,7 @@ pub const VERBS: &[Verb] = &[
     page::VERB,
     desk::VERB,
     join::VERB,
+    renumber::VERB,
     turns::VERB,
     cheapest::VERB,
     bytes::VERB,
@@ -38,7 +40,8 @@ pub const VERBS: &[Verb] = &[
 ];
 
 /// A verb: its name, what may follow it, what it does in one line, an example, the rest of its help,
-/// how many files it takes, the flags and the switches that it knows, and how it runs.
+/// how many files it takes, the flags that it knows, those that may be repeated, the switches, and how it
+/// runs.
 pub struct Verb {
     pub name: &'static str,
     pub takes: &'static str,
@@ -47,6 +50,7 @@ pub struct Verb {
     pub more: &'static str,
     pub files: Files,
     pub flags: &'static [&'static str],
+    pub repeated: &'static [&'static str],
     pub switches: &'static [&'static str],
     pub run: fn(&Arguments) -> Result<Printed, Failure>,
 }
@@ -80,6 +84,7 @@ const FORM: &str = "
 BOOK and ORDER are readable texts, which are read one after the other; - is standard input. ORDERS
 are several such texts, each read after BOOK, and NAMES are names of options; FILE of desk has commands.
 FIRST and SECOND of join are two books, and PAIRS are NAME=NAME, a name of the one and one of the other.
+NAME=NEW of renumber is an option that is reversed and its new name: to fit NEW is to leave NAME out.
 PRICES of cheapest is a text of prices, as its help shows, and NAME=PRICE an option and what it would cost.
 `optbook VERB --help` tells more of a verb. A text has one thing a line:
 

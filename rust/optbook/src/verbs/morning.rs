@@ -26,6 +26,7 @@ Exit status: 0 all orders can be built, else the highest of the orders: 1 cannot
 ",
     files: (1, ANY),
     flags: &LIMITS,
+    repeated: &[],
     switches: &[],
     run,
 };

@@ -42,6 +42,7 @@ in BOOK, ORDER or NAMES.
 ",
     files: (2, ANY),
     flags: &LIMITS,
+    repeated: &[],
     switches: &[],
     run,
 };

@@ -27,6 +27,7 @@ BOOK or ORDER.
 ",
     files: (1, 2),
     flags: &[ALLOWANCE],
+    repeated: &[],
     switches: &[],
     run,
 };

@@ -32,6 +32,7 @@ Exit status: 0 all orders can be built, else the highest of the sites: 1 cannot,
 ",
     files: (1, ANY),
     flags: &LIMITS,
+    repeated: &[],
     switches: &[],
     run,
 };

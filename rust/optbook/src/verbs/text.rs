@@ -19,6 +19,7 @@ Exit status: 0; 64 bad command line, 65 a mistake in BYTES or BOOK.
 ",
     files: (1, 1),
     flags: &["--names"],
+    repeated: &[],
     switches: &[],
     run,
 };

@@ -35,6 +35,7 @@ Exit status: 0 can be forced, 1 cannot, 2 refused; 64 bad command line, 65 a mis
 ",
     files: (1, 2),
     flags: &[],
+    repeated: &[],
     switches: &[],
     run,
 };

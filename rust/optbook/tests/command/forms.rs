@@ -3,7 +3,7 @@
 
 use crate::run::{optbook, CAN, DOSING, DRYING, PLANT, PRICES};
 
-const VERBS: [&str; 14] = [
+const VERBS: [&str; 15] = [
     "check",
     "morning",
     "open",
@@ -12,6 +12,7 @@ const VERBS: [&str; 14] = [
     "page",
     "desk",
     "join",
+    "renumber",
     "turns",
     "cheapest",
     "bytes",

@@ -15,6 +15,8 @@ mod open;
 mod page;
 #[cfg(feature = "proved")]
 mod proved;
+mod renumber;
+mod renumbered;
 mod run;
 #[cfg(feature = "proved")]
 mod sites;

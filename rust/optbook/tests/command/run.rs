@@ -36,7 +36,6 @@ pub fn optbook(words: &[&str], input: &[u8]) -> Ended {
 }
 
 /// The path of a file with this text. No two tests have files of one name.
-#[cfg(feature = "proved")]
 pub fn file(name: &str, text: &str) -> String {
     let path = Path::new(env!("CARGO_TARGET_TMPDIR")).join(name);
     std::fs::write(&path, text).unwrap();
