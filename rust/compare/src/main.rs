@@ -27,6 +27,7 @@ mod pages;
 mod question;
 mod random;
 mod refused;
+mod renumberings;
 mod shapes;
 mod small;
 mod tallies;
@@ -44,8 +45,8 @@ use under_test::{Port, Program, UnderTest};
 
 const USAGE: &str = "\
 compare differential [--program PATH [--page-program PATH]] [--seed S] [--books N] [--solver NAME]
-    generated books, mornings, open options, sites, pages, desks, joined books, turns and cheapest plants
-    through the checker and the port, each verdict on a book also by an outside solver
+    generated books, mornings, open options, sites, pages, desks, joined books, turns, cheapest plants and
+    renumbered books through the checker and the port, each verdict on a book also by an outside solver
 compare vectors FILE... [--program PATH [--page-program PATH]]
     the cases of these files through the checker and the port
 compare allowances
@@ -67,8 +68,8 @@ it is depqbf, and of cheapest plants clasp, where they are installed.
 const SEED: u64 = 1;
 const BOOKS: usize = 4000;
 
-/// What the lent tables hold before a run; for mornings, open options, sites, pages and desks, its complement
-/// in turn with it; for joined books, turns and cheapest plants both, one after the other.
+/// What the lent tables hold before a run; for mornings, open options, sites, pages, desks and renumbered books,
+/// its complement in turn with it; for joined books, turns and cheapest plants both, one after the other.
 const RUBBISH: u64 = 0xa5a5_5a5a_a5a5_5a5a;
 
 /// The words of the command line after the subcommand.
@@ -170,6 +171,9 @@ fn differential(words: &Words) -> Result<(), String> {
     };
     if let Some(tally) = cheapest::run(tested[0].as_mut(), outside, seed, cheapest::beside(books))?
     {
+        print!("{}", tally.told());
+    }
+    if let Some(tally) = renumberings::run(&mut tested, seed, renumberings::beside(books))? {
         print!("{}", tally.told());
     }
     println!("no difference, in {:.1} s", start.elapsed().as_secs_f64());

@@ -8,6 +8,8 @@
 //! as the list of its calls, and `DeskWords` what a call does to a desk of any words. `join` makes one book of
 //! two. `turns` says whether the planner can force a plant where the buyer and he settle the free options.
 //! `cheapest` finds the cheapest plant by trying all choices, and `cheapest_by_branches` the same one sooner.
+//! `Renumbering` is how another office numbers the options and which of them it reverses, in rules, completed
+//! orders and choices.
 //! `run_program` does what the program does with its standard input.
 
 mod book;
@@ -20,6 +22,7 @@ mod morning;
 mod outcome;
 mod page;
 mod program;
+mod renumber;
 mod request;
 mod sites;
 mod steps;
@@ -36,6 +39,7 @@ pub use morning::{morning, Morning};
 pub use outcome::{Ending, Outcome, CAN, CANNOT};
 pub use page::page;
 pub use program::{run_program, PROGRAM_ALLOWANCE, PROGRAM_PLACES, PROGRAM_RECORD_PLACES};
+pub use renumber::Renumbering;
 pub use request::{check, Order, Places, Request};
 pub use sites::{sites, Served, Site, Sites};
 pub use turns::{turns, Response, Turns};
