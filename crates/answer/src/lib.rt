@@ -1,4 +1,6 @@
 // The answer to a check: one type from the search to the last caller, and one word of 64 bits where a caller takes no type.
+#![tactic(auto)]
+
 ghost use Rattle.std.specs.Prelude.{◌≡◌};
 ghost use Rattle.answer.specs.Answer.{tally_in, number_in};
 ghost use Rattle.answer.specs.Packed.{kind_in, packed, Packable};

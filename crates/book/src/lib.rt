@@ -1,4 +1,6 @@
 // The book: its limits, reading it from bytes into a work table, its order, and writing it as bytes.
+#![tactic(auto)]
+
 ghost use Rattle.std.specs.Prelude.{◌≡◌, ◌+◌, ◌≤◌, length};
 ghost use Rattle.steps.specs.Run.{units, given};
 ghost use Rattle.order.specs.Values.{assumptions_of, order_of};

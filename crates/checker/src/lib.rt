@@ -1,4 +1,6 @@
 // The entry point: book bytes, an order, an allowance and lent tables in; a verdict, a refusal or a stop out, with the tables filled.
+#![tactic(auto)]
+
 ghost use Rattle.rows.specs.Rows.{clauses};
 ghost use Rattle.order.specs.Values.{order_of, assumptions_of};
 ghost use Rattle.contract.specs.Filled.{lent, Checked};

@@ -1,4 +1,6 @@
 // A desk with drafts to come back to: a fresh one, and four calls that are lent a desk. Each takes what the desk holds, calls a function on values, and stores what that gave.
+#![tactic(auto)]
+
 ghost use Rattle.std.specs.Prelude.{◌≡◌};
 ghost use Rattle.drafts.specs.Desk as definition;
 ghost use Rattle.drafts.specs.Desk.{Alters, Call.set, Call.clear, Call.keep, Call.return};

@@ -1,4 +1,5 @@
 // A desk with drafts to come back to: what is lent from call to call. Crate `desk` has the calls.
+#![tactic(auto)]
 
 // A desk for so many options: the current order, which drafts are kept (draft d at bit d - 1), and the order of each draft (in place d - 1).
 #[repr(C)]

@@ -1,4 +1,6 @@
 // Steps 2 to 4 and the choice of step 5: what there is to do at a branching point.
+#![tactic(auto)]
+
 ghost use Rattle.std.specs.Prelude.{◌≡◌};
 ghost use Rattle.steps.specs.Enter.{swept as Swept, enter as Enter};
 ghost use Rattle.rows.specs.Values.{assignment_of, env_of};

@@ -1,4 +1,6 @@
 // A page for the file: the outcome of a check as lines of 40 characters, at the start of a lent buffer.
+#![tactic(auto)]
+
 ghost use Rattle.std.specs.Prelude.{◌≡◌, ◌≤◌, length};
 ghost use Rattle.order.specs.Values.{order_of};
 ghost use Rattle.report.specs.Text.{Printed};

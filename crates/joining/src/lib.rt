@@ -1,5 +1,7 @@
 // Two books joined to one, given pairs of their options that are the same thing. Each book is read once, into a work table, and the second's clauses are put after
 // the first's with their options in their places.
+#![tactic(auto)]
+
 ghost use Rattle.std.specs.Prelude.{◌≡◌, ◌+◌, ◌≤◌, length};
 ghost use Rattle.rows.specs.Rows.{clause_words};
 ghost use Rattle.book.specs.Limits.{max_clauses};

@@ -1,4 +1,5 @@
 // Two books joined to one: what is answered. Crate `joining` has the code.
+#![tactic(auto)]
 
 // How many bytes of the joint book were written, or the number of the refusal.
 #[derive(Drop)]

@@ -1,5 +1,7 @@
 // The page written into a lent buffer: of an answer and derived rules, and of a check. Each function writes at the start of `out`, whose later bytes stay as they are, and gives
 // the length of the page.
+#![tactic(auto)]
+
 ghost use Rattle.std.specs.Prelude.{◌≤◌, length};
 ghost use Rattle.order.specs.Values.{order_of};
 ghost use Rattle.contract.specs.Check.{check};

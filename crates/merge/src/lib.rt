@@ -1,4 +1,6 @@
 // Step 7: coming together after both sides of a branching, its variable undecided again.
+#![tactic(auto)]
+
 ghost use Rattle.std.specs.Prelude.{◌≡◌, Bool, List, ℕ, ◌≤◌, length};
 ghost use Rattle.steps.specs.Sweep.{monotone as Monotone};
 ghost use Rattle.steps.specs.Merge.{cover, settle as Settle, learn as Learn, join as Join, merge_on, merge as Merge};

@@ -1,1 +1,2 @@
 // No code: what a morning of orders gives, as a definition, and the demands on it. Crate `serving` has the code.
+#![tactic(auto)]

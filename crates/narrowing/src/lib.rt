@@ -1,5 +1,7 @@
 // The clauses that are still open: those that no settled option keeps. A book that is narrowed to them once is sooner gone through, choice by choice. Both functions are
 // public for the crates that go through choices; their callers see to what `narrow` asks.
+#![tactic(auto)]
+
 ghost use Rattle.std.specs.Prelude.{◌≡◌, ◌≤◌, length};
 ghost use Rattle.rows.specs.Rows.{clause_words, clauses as Clauses};
 ghost use Rattle.rows.specs.Values.{clause_of};

@@ -1,5 +1,7 @@
 // The program: reads standard input, makes one call on slices and writes the reply. Bytes past the buffer play no part in the reply
 // (crate `reply`, `ReadableDecides`), so an input of any length has its own.
+#![tactic(auto)]
+
 use libc::{STDIN_FILENO, STDOUT_FILENO};
 
 fn main() {

@@ -1,4 +1,6 @@
 // The check, the page, the morning, open options, the terminal, the desk, joined books, turns and the cheapest plant for C and Rust: exported functions on numbers and slices (rust/optcheck/include/optcheck.h is their header).
+#![tactic(auto)]
+
 ghost use Rattle.contract.specs.Filled.{lent};
 ghost use Rattle.page.specs.Filed.{Filed};
 ghost use Rattle.morning.specs.Morning.{Serves};

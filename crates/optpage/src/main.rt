@@ -1,5 +1,7 @@
 // The second program: reads standard input as the first one does, makes one call on slices and writes the page. Bytes past the buffer play no part in the page
 // (crate `page`, `ReadableDecides`), so an input of any length has its own.
+#![tactic(auto)]
+
 use libc::{STDIN_FILENO, STDOUT_FILENO};
 
 fn main() {

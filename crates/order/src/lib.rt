@@ -1,4 +1,6 @@
 // An order as a caller gives it, and the order that it is completed to.
+#![tactic(auto)]
+
 ghost use Rattle.std.specs.Prelude.{◌≡◌, ◌≤◌};
 ghost use Rattle.order.specs.Order.{complete as Complete, free as Free};
 ghost use Rattle.order.specs.Values.{assumptions_of, order_of};

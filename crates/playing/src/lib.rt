@@ -1,4 +1,6 @@
 // The free options settled in turn. The book is read once, into a work table, and its turns are gone through.
+#![tactic(auto)]
+
 ghost use Rattle.std.specs.Prelude.{◌≡◌, length, ◌≤◌};
 ghost use Rattle.words.specs.Words.{members};
 ghost use Rattle.order.specs.Values.{order_of};

@@ -1,4 +1,6 @@
 // What the program prints for what it reads, on slices. The program itself only reads, calls `respond` and writes.
+#![tactic(auto)]
+
 ghost use Rattle.std.specs.Prelude.{◌≡◌, ◌≤◌, length};
 ghost use Rattle.order.specs.Values.{order_of};
 ghost use Rattle.contract.specs.Filled.{lent};

@@ -1,4 +1,6 @@
 // The printed outcome (docs/FORMAT.md), as bytes in a lent buffer.
+#![tactic(auto)]
+
 ghost use Rattle.std.specs.Prelude.{◌≤◌, length};
 ghost use Rattle.answer.specs.Answer.{tally_in};
 ghost use Rattle.report.specs.Text.{text_from, Counted, Printed, bound};

@@ -1,4 +1,6 @@
 // A morning's orders: 1 to 16 of them against one book, each checked with the whole allowance and with its own part of the lent tables.
+#![tactic(auto)]
+
 ghost use Rattle.std.specs.Prelude.{◌≡◌, ◌+◌, ◌*◌, ◌≤◌, ◌<◌, length};
 ghost use Rattle.order.specs.Values.{order_of};
 ghost use Rattle.contract.specs.Filled.{lent};

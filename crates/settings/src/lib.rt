@@ -1,4 +1,6 @@
 // A setting of open options: the next one, the order with it, and the tables cleared before it.
+#![tactic(auto)]
+
 ghost use Rattle.std.specs.Prelude.{◌≡◌, ◌<◌};
 ghost use Rattle.order.specs.Values.{order_of};
 ghost use Rattle.undecided.specs.Settings.{next_setting};

@@ -1,4 +1,6 @@
 // Sites that share one allowance: what is handed on from call to call, and what is answered. Crate `terminal` has the code.
+#![tactic(auto)]
+
 use answer::Answer;
 
 // A terminal between two sites: what is left of the whole allowance, the part of a site, and how many sites are to come.

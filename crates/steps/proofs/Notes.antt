@@ -199,7 +199,7 @@ pub same_sweep : SameSweep
 unfolding rounds sweep
 same_sweep e a zero s = refl
 same_sweep e a (suc k) s =
-    ap (sweep_on a _ s) (same_choice a s (members (live e a s))) ∙ go (first_monotone a s (members (live e a s))) (same_sweep e a k)
+    ap (sweep_on a (λ u. rounds e a k (notes a (redundant u) u.table) u) s) (same_choice a s (members (live e a s))) ∙ go (first_monotone a s (members (live e a s))) (same_sweep e a k)
   where
     go : (f : Found) → ((u : State) → rounds e a k (notes a (redundant u) u.table) u ≡ sweep e a k u)
         → sweep_on a (λ u. rounds e a k (notes a (redundant u) u.table) u) s f ≡ sweep_on a (sweep e a k) s f

@@ -1,4 +1,6 @@
 // Step 3: the sweep, which strikes variables that no longer matter. It goes by rule. Which clauses are in play, and which name a redundant variable, the index says.
+#![tactic(auto)]
+
 ghost use Rattle.std.specs.Prelude.{◌≡◌, false, ℕ, ◌≤◌, length};
 ghost use Rattle.std.specs.Int.Bits.{bit_or};
 ghost use Rattle.words.specs.Words.{members};

@@ -1,4 +1,6 @@
 // What is found of open options, told in numbers: the word of an answer, and in two places of the caller the verdict and the last setting tried.
+#![tactic(auto)]
+
 ghost use Rattle.std.specs.Prelude.{◌≡◌};
 ghost use Rattle.order.specs.Values.{order_of};
 ghost use Rattle.contract.specs.Filled.{lent};

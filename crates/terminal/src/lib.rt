@@ -1,4 +1,6 @@
 // A terminal: 1 to 8 sites share one allowance, and are served one a call.
+#![tactic(auto)]
+
 ghost use Rattle.std.specs.Prelude.{◌≡◌, ◌-◌, ◌≤◌};
 ghost use Rattle.order.specs.Values.{order_of};
 ghost use Rattle.contract.specs.Filled.{lent};

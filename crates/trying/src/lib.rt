@@ -1,4 +1,6 @@
 // Options that a buyer has not decided: every setting of them is tried, each as a check of its own on tables of zeros, until one stops.
+#![tactic(auto)]
+
 ghost use Rattle.order.specs.Values.{order_of};
 ghost use Rattle.contract.specs.Filled.{lent};
 ghost use Rattle.undecided.specs.Undecided.{Replies};

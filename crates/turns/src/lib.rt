@@ -1,4 +1,5 @@
 // The buyer and the planner settle the free options in turn: what is answered. Crate `playing` has the code.
+#![tactic(auto)]
 
 // What the planner answers to a choice of the buyer's: he leaves the next option out, he fits it, or there is no answer.
 #[derive(Drop)]

@@ -1,4 +1,6 @@
 // Options that a buyer has not decided: what is answered. Crate `trying` has the code.
+#![tactic(auto)]
+
 use answer::Answer;
 
 // The order can be built with every setting of the open options, with some but not all, or with none; or a setting stopped, and there is no verdict.

@@ -1,5 +1,7 @@
 // Stored inputs of the two programs, one after the other. Before each stand one byte, 0 for the first program and 1 for the page, and its length: two bytes, low
 // byte first. The replies and pages are written one after the other, and `rt ci` holds them to the stored ones.
+#![tactic(auto)]
+
 use libc::{STDIN_FILENO, STDOUT_FILENO};
 
 fn length_of(low: u8, high: u8) -> usize {

@@ -1,5 +1,7 @@
 // A word of 64 bits as a set of the variables 0 to 63: variable k is a member where bit k is set.
 // Each function computes one definition of `specs/Words.antt`, or a count of the word's bits, at 64 bits.
+#![tactic(auto)]
+
 ghost use Rattle.std.specs.Prelude.{◌≡◌, min, ◌^◌, ◌<◌};
 ghost use Rattle.std.specs.Int.Count.{ones, count_trailing_zeros};
 ghost use Rattle.words.specs.Words.{digit, has, lowest, Highest, minus, meets, first_vars};
