@@ -6,7 +6,7 @@ ghost use Rattle.answer.specs.Answer.{tally_in, number_in};
 ghost use Rattle.answer.specs.Packed.{kind_in, packed, Packable};
 
 // The counts: branchings, derived rules, records.
-#[derive(Drop)]
+#[derive(Clone, Copy)]
 pub struct Tally {
     pub branchings: u32,
     pub derived: usize,
@@ -14,7 +14,7 @@ pub struct Tally {
 }
 
 // A verdict, a refusal by its number, or a stop by its number.
-#[derive(Drop)]
+#[derive(Clone, Copy)]
 pub enum Answer {
     Can(Tally),
     Cannot(Tally),

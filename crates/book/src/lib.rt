@@ -22,21 +22,21 @@ use order::{Assumptions, Order};
 pub use word::word_at;
 
 // A book, without its clauses: how many variables (n) and how many clauses (m) it has. The clauses are the first of a work table.
-#[derive(Drop)]
+#[derive(Clone, Copy)]
 pub struct Book {
     pub vars: u32,
     pub clauses: usize,
 }
 
 // What reading gives: the sizes of the book, or the number of the refusal.
-#[derive(Drop)]
+#[derive(Clone, Copy)]
 pub enum Reading {
     Book(Book),
     Refused(u32),
 }
 
 // What writing gives: how many bytes, the number of the refusal of what is no book, or that the bytes do not fit.
-#[derive(Drop)]
+#[derive(Clone, Copy)]
 pub enum Written {
     Bytes(usize),
     Refused(u32),

@@ -10,7 +10,7 @@ use rows::state::Env;
 use search::run;
 
 // The answer, and how many clauses book and order are: the derived ones stand after them.
-#[derive(Drop)]
+#[derive(Clone, Copy)]
 pub struct Done {
     pub answer: Answer,
     pub given: usize,

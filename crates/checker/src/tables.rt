@@ -44,7 +44,7 @@ fn copy_clauses(t: &[u64], m: usize, k: usize, sign: bool, out: &mut [u64])
 }
 
 // One word of a D-sequent: its decided variables, those of them true, or its redundant ones.
-#[derive(Drop)]
+#[derive(Clone, Copy)]
 pub enum Column {
     Decided,
     Trues,

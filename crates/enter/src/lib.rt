@@ -15,7 +15,7 @@ use rows::table::Lookup;
 use rows::{clause, records, state, table, tallies};
 
 // Go back up, end with "can", or branch over a variable with the value of its first side.
-#[derive(Drop)]
+#[derive(Clone, Copy)]
 pub enum Turn {
     Back(Counts),
     Satisfiable(Counts),

@@ -5,7 +5,7 @@ ghost use Rattle.joint.specs.Join.{pairs_fault};
 ghost use Rattle.joining.specs.Promises.{judged_as, NoneZero};
 
 // The options of one side of the pairs, or that one of them, or a pair, is at fault.
-#[derive(Drop)]
+#[derive(Clone, Copy)]
 pub enum Paired {
     Options(u64),
     Fault,

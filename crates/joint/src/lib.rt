@@ -2,7 +2,7 @@
 #![tactic(auto)]
 
 // How many bytes of the joint book were written, or the number of the refusal.
-#[derive(Drop)]
+#[derive(Clone, Copy)]
 pub enum Joined {
     Written(usize),
     Refused(u32),

@@ -19,7 +19,7 @@ use rows::{clause, records, state, table, tallies};
 use sweep::Literal;
 
 // How a run ends: the two verdicts, stop 10 and stop 11.
-#[derive(Drop)]
+#[derive(Clone, Copy)]
 pub enum Ending {
     Can,
     Cannot,
@@ -28,7 +28,7 @@ pub enum Ending {
 }
 
 // Back up, or the end of the run with the decisions at which it was reached.
-#[derive(Drop)]
+#[derive(Clone, Copy)]
 pub enum Side {
     Up(Counts),
     Ended(Ending, Assignment, Counts),

@@ -6,7 +6,7 @@ ghost use Rattle.order.specs.Order.{complete as Complete, free as Free};
 ghost use Rattle.order.specs.Values.{assumptions_of, order_of};
 
 // An order: the wanted options, the unwanted ones, and the standard ones, which come unless they are unwanted.
-#[derive(Drop)]
+#[derive(Clone, Copy)]
 pub struct Order {
     pub wanted: u64,
     pub unwanted: u64,
@@ -14,7 +14,7 @@ pub struct Order {
 }
 
 // A completed order: what it wants, and what it does not want.
-#[derive(Drop)]
+#[derive(Clone, Copy)]
 pub struct Assumptions {
     pub pos: u64,
     pub neg: u64,

@@ -13,7 +13,7 @@ use rows::clause::Clause;
 use rows::table;
 
 // What a choice has to keep: so many clauses of the work table, and the completed order.
-#[derive(Drop)]
+#[derive(Clone, Copy)]
 pub struct Given {
     pub clauses: usize,
     pub order: Assumptions,

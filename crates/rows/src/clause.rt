@@ -5,14 +5,14 @@ ghost use Rattle.steps.specs.Merge.{covers as Covers, resolvent as Resolvent};
 ghost use Rattle.rows.specs.Values.{clause_of, assignment_of};
 
 // A rule.
-#[derive(Drop)]
+#[derive(Clone, Copy)]
 pub struct Clause {
     pub pos: u64,
     pub neg: u64,
 }
 
 // The decisions.
-#[derive(Drop)]
+#[derive(Clone, Copy)]
 pub struct Assignment {
     pub decided: u64,
     pub trues: u64,

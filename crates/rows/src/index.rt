@@ -23,7 +23,7 @@ pub const VARS: usize = 3;
 pub const ROWS: usize = 67;
 
 // Where a walk through the clauses that are in two rows stands: at a clause, with the bits of those that are left in its block, it among them.
-#[derive(Drop)]
+#[derive(Clone, Copy)]
 pub struct Cursor {
     pub number: usize,
     pub left: u64,

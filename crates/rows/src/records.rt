@@ -8,7 +8,7 @@ ghost use Rattle.rows.specs.Rows.{sequent_words, sequent_at, sequents, put_seque
 pub const WORDS: usize = 3;
 
 // A record: the decided variables, those of them true, and the redundant ones.
-#[derive(Drop)]
+#[derive(Clone, Copy)]
 pub struct DSequent {
     pub decided: u64,
     pub trues: u64,

@@ -9,7 +9,7 @@ use super::records::DSequent;
 use super::{clause, records};
 
 // How many clauses, D-sequents and branchings there are.
-#[derive(Drop)]
+#[derive(Clone, Copy)]
 pub struct Counts {
     pub clauses: usize,
     pub records: usize,
@@ -17,7 +17,7 @@ pub struct Counts {
 }
 
 // What stays the same in a run: how many variables, how many branchings are allowed, how many clauses the table may hold.
-#[derive(Drop)]
+#[derive(Clone, Copy)]
 pub struct Env {
     pub vars: u32,
     pub allowance: u32,

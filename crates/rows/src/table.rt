@@ -18,7 +18,7 @@ use super::{clause, index, tally};
 pub const WORDS: usize = 2;
 
 // The clause that a look-up finds.
-#[derive(Drop)]
+#[derive(Clone, Copy)]
 pub enum Lookup {
     Found(Clause),
     Nothing,

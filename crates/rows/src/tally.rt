@@ -12,7 +12,7 @@ use super::clause::{Assignment, Clause};
 
 // What a change of decisions on a variable does to the word of a clause that names it: `up` is added and `down` taken away, and the digit that says whether it has the
 // literal of the sign is added, shifted.
-#[derive(Drop)]
+#[derive(Clone, Copy)]
 pub struct Delta {
     pub up: u64,
     pub down: u64,

@@ -73,7 +73,7 @@ fn order_at(orders: &[u64], i: usize) -> Order
 }
 
 // The places of a part of a table, from the first to the one after the last.
-#[derive(Drop)]
+#[derive(Clone, Copy)]
 struct Places {
     from: usize,
     to: usize,

@@ -4,7 +4,7 @@
 use answer::Answer;
 
 // A terminal between two sites: what is left of the whole allowance, the part of a site, and how many sites are to come.
-#[derive(Drop)]
+#[derive(Clone, Copy)]
 pub struct Terminal {
     pub left: u32,
     pub part: u32,
@@ -12,14 +12,14 @@ pub struct Terminal {
 }
 
 // A refusal by its number, or a terminal for the first site.
-#[derive(Drop)]
+#[derive(Clone, Copy)]
 pub enum Opening {
     Refused(u32),
     Opened(Terminal),
 }
 
 // The answer to a site, and the terminal for the next.
-#[derive(Drop)]
+#[derive(Clone, Copy)]
 pub struct Served {
     pub answer: Answer,
     pub terminal: Terminal,

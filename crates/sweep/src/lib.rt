@@ -19,21 +19,21 @@ use rows::state::{Counts, Env};
 use rows::{clause, index, records, state, table, tallies};
 
 // The literals noted, positive and negative.
-#[derive(Drop)]
+#[derive(Clone, Copy)]
 struct Noted {
     pub pos: u64,
     pub neg: u64,
 }
 
 // The literal of a variable, given as a word, and a sign.
-#[derive(Drop)]
+#[derive(Clone, Copy)]
 pub struct Literal {
     pub var: u64,
     pub sign: bool,
 }
 
 // The literal by which a variable is struck, if one passes.
-#[derive(Drop)]
+#[derive(Clone, Copy)]
 enum Chosen {
     By(Literal),
     Nothing,

@@ -14,7 +14,7 @@ use rows::table;
 const MAX_OPEN: u32 = 10;
 
 // The number of a refusal, or none.
-#[derive(Drop)]
+#[derive(Clone, Copy)]
 pub enum Judged {
     Number(u32),
     Nothing,

@@ -10,7 +10,7 @@ use order::Order;
 use undecided::{Tried, Verdict};
 
 // The setting that was tried last, whether all settings so far can be built, whether some can, and the last one's answer.
-#[derive(Drop)]
+#[derive(Clone, Copy)]
 pub struct Going {
     pub setting: u64,
     pub all: bool,

@@ -4,7 +4,7 @@
 use answer::Answer;
 
 // The order can be built with every setting of the open options, with some but not all, or with none; or a setting stopped, and there is no verdict.
-#[derive(Drop)]
+#[derive(Clone, Copy)]
 pub enum Verdict {
     Always,
     Sometimes,
@@ -13,7 +13,7 @@ pub enum Verdict {
 }
 
 // The verdict or that there is none, the last setting tried, and the answer to it.
-#[derive(Drop)]
+#[derive(Clone, Copy)]
 pub struct Tried {
     pub verdict: Verdict,
     pub setting: u64,
@@ -21,7 +21,7 @@ pub struct Tried {
 }
 
 // A refusal by its number, or what trying the settings gave.
-#[derive(Drop)]
+#[derive(Clone, Copy)]
 pub enum Reply {
     Refused(u32),
     Tried(Tried),
