@@ -11,5 +11,5 @@ returns : tie.Need-returns
 unfolding complete
 returns c = cc
 
-pub complete-spec : {M : Type 1} → statement M
-complete-spec = tie.close (tie.spec minus-requires returns)
+pub complete_spec : {M : Type 1} → statement M
+complete_spec = tie.close (tie.spec minus-requires returns)

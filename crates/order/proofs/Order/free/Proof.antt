@@ -8,10 +8,10 @@ use Rattle.order.specs.Order.{free}
 use Rattle.order.proofs.Order.free.Statement.{statement}
 use Rattle.order.proofs.Order.free.Tie as tie
 
-complete-requires : tie.Need-complete-requires
+complete-requires : tie.Need-complete-order-requires
 complete-requires c κs = search rules
 
-first-of-requires : tie.Need-first-of-requires
+first-of-requires : tie.Need-first_of-requires
 first-of-requires c κs = search rules
 
 minus-requires : tie.Need-minus-requires
@@ -23,7 +23,7 @@ returns c =
     let first = c.before.before in
     let completed = first.before in
     c.minus.ensures
-    ∙ ap₂ minus (first.first_of.ensures ∙ ap first_vars (min-eq_left completed.before.requires)) (ap (λ w. bit_or w.pos w.neg) completed.complete.ensures)
+    ∙ ap₂ minus (first.first_of.ensures ∙ ap first_vars (min-eq_left completed.before.requires)) (ap (λ w. bit_or w.pos w.neg) completed.complete-order.ensures)
 
 pub free_spec : {M : Type 1} → statement M
 free_spec = tie.close (tie.spec complete-requires first-of-requires minus-requires returns)

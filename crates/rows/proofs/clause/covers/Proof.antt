@@ -20,9 +20,9 @@ minus-requires-2 c κs = search rules
 returns : tie.Need-returns
 unfolding covers
 returns c =
-    let p = c.before.minus.result in
-    let q = c.minus2.result in
-    is_zero_test (bit_or p q) ∙ or_empty p q ∙ ap₂ (λ (x y : ℕ). is_zero x && is_zero y) c.before.minus.ensures c.minus2.ensures
+    let p = c.minus.result in
+    let q = c.minus-2.result in
+    is_zero_test (bit_or p q) ∙ or_empty p q ∙ ap₂ (λ (x y : ℕ). is_zero x && is_zero y) c.minus.ensures c.minus-2.ensures
 
-pub covers-spec : {M : Type 1} → statement M
-covers-spec = tie.close (tie.spec minus-requires minus-requires-2 returns)
+pub covers_spec : {M : Type 1} → statement M
+covers_spec = tie.close (tie.spec minus-requires minus-requires-2 returns)

@@ -2,11 +2,11 @@
 use Rattle.rows.proofs.clause.decide.Statement.{statement}
 use Rattle.rows.proofs.clause.decide.Tie as tie
 
-returns : tie.Need-returns
-returns c = rw c.before.before.if1.true
+returns : tie.Need-returns-then-value
+returns c = rw c.if-value.true
 
-returns-2 : tie.Need-returns-2
-returns-2 c = rw c.before.if1.false
+returns-2 : tie.Need-returns-else-value
+returns-2 c = rw c.if-value.false
 
-pub decide-spec : {M : Type 1} → statement M
-decide-spec = tie.close (tie.spec returns returns-2)
+pub decide_spec : {M : Type 1} → statement M
+decide_spec = tie.close (tie.spec returns returns-2)

@@ -11,5 +11,5 @@ returns : tie.Need-returns
 unfolding keepers
 returns c = cc
 
-pub keepers-spec : {M : Type 1} → statement M
-keepers-spec = tie.close (tie.spec minus-requires returns)
+pub keepers_spec : {M : Type 1} → statement M
+keepers_spec = tie.close (tie.spec minus-requires returns)

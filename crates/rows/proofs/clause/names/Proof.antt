@@ -14,5 +14,5 @@ returns : tie.Need-returns
 unfolding names
 returns c = cc
 
-pub names-spec : {M : Type 1} → statement M
-names-spec = tie.close (tie.spec vars-requires meets-requires returns)
+pub names_spec : {M : Type 1} → statement M
+names_spec = tie.close (tie.spec vars-requires meets-requires returns)

@@ -14,5 +14,5 @@ returns : tie.Need-returns
 unfolding resolvent
 returns c = cc
 
-pub resolvent-spec : {M : Type 1} → statement M
-resolvent-spec = tie.close (tie.spec minus-requires minus-requires-2 returns)
+pub resolvent_spec : {M : Type 1} → statement M
+resolvent_spec = tie.close (tie.spec minus-requires minus-requires-2 returns)

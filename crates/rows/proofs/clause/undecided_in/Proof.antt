@@ -11,29 +11,29 @@ use Rattle.rows.proofs.clause.undecided_in.Tie as tie
 minus-requires : tie.Need-minus-requires
 minus-requires c κs = search rules
 
-count-of-requires : tie.Need-count-of-requires
+count-of-requires : tie.Need-count_of-requires
 count-of-requires c κs = search rules
 
 minus-requires-2 : tie.Need-minus-requires-2
 minus-requires-2 c κs = search rules
 
-count-of-requires-2 : tie.Need-count-of-requires-2
+count-of-requires-2 : tie.Need-count_of-requires-2
 count-of-requires-2 c κs = search rules
 
-add-result : tie.Need-overflow-add-result
+add-result : tie.Need-overflow_add-result
 add-result c =
-    let x = c.before.before.before.minus in
-    let y = c.before.minus2 in
-    let fx : x.result < 2 ^ 64 = x.type-inv in
-    let fy : y.result < 2 ^ 64 = y.type-inv in
-    omega (arith, ones-le 64 x.result fx, ones-le 64 y.result fy, c.before.before.count_of.ensures, c.count-of2.ensures)
+    let x = c.minus in
+    let y = c.minus-2 in
+    let fx : x.result < 2 ^ 64 = x.type_inv in
+    let fy : y.result < 2 ^ 64 = y.type_inv in
+    omega (arith, ones-le 64 x.result fx, ones-le 64 y.result fy, c.count_of.ensures, c.count_of-2.ensures)
 
 returns : tie.Need-returns
 unfolding undecided_in
 returns c = cc
 
-pub undecided-in-spec : {M : Type 1} → statement M
-undecided-in-spec =
+pub undecided_in_spec : {M : Type 1} → statement M
+undecided_in_spec =
     tie.close
     (tie.spec
     minus-requires

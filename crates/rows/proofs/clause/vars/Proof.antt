@@ -8,5 +8,5 @@ returns : tie.Need-returns
 unfolding vars
 returns c = refl
 
-pub vars-spec : {M : Type 1} → statement M
-vars-spec = tie.close (tie.spec returns)
+pub vars_spec : {M : Type 1} → statement M
+vars_spec = tie.close (tie.spec returns)

@@ -12,7 +12,7 @@ row-requires-2 : tie.Need-row-requires-2
 row-requires-2 c κs = search rules
 
 returns : tie.Need-returns
-returns c = ap₂ bit_and c.before.row.ensures c.row2.ensures
+returns c = ap₂ bit_and c.row.ensures c.row-2.ensures
 
-pub both-spec : {M : Type 1} → statement M
-both-spec = tie.close (tie.spec row-requires row-requires-2 returns)
+pub both_spec : {M : Type 1} → statement M
+both_spec = tie.close (tie.spec row-requires row-requires-2 returns)

@@ -26,41 +26,40 @@ one_more {q₀} {q} {j} {u} h room w =
       empty = below_more _ u (λ v l. put_row_other q j u 0 j v h (omega arith) (λ e f. omega arith) ∙ w.empty v l) (put_row_here q j u 0 (omega arith));
     }
 
-abbrev invariant-loop : tie.invariant-loop
+abbrev invariant-loop : tie.invariant-loop-u
 invariant-loop q₀ j u₀ q u = (u ≤ 67) × Cleared q₀ q j u
 
-abbrev decreases-loop : tie.decreases-loop
+abbrev decreases-loop : tie.decreases-loop-u
 decreases-loop q₀ j u₀ q u = 67 - u
 
-loop-holds : tie.Need-loop-init invariant-loop decreases-loop
+loop-holds : tie.Need-loop-u-init invariant-loop decreases-loop
 loop-holds c = (omega arith, record { only = only_refl _ _; counts = λ b h. refl; empty = below_none _ })
 
-put-row-requires : tie.Need-put-row-requires invariant-loop decreases-loop
+put-row-requires : tie.Need-put_row-requires invariant-loop decreases-loop
 put-row-requires c κs = (omega arith, omega arith)
 
-add-u : tie.Need-overflow-add-u invariant-loop decreases-loop
+add-u : tie.Need-overflow_add-u invariant-loop decreases-loop
 add-u c = omega arith
 
-loop-less : tie.Need-loop-smaller invariant-loop decreases-loop
+loop-less : tie.Need-loop-u-smaller invariant-loop decreases-loop
 loop-less c = omega arith
 
-loop-again : tie.Need-loop-preserved invariant-loop decreases-loop
+loop-again : tie.Need-loop-u-preserved invariant-loop decreases-loop
 loop-again c =
-    let turn = c.before.before.before.before.before in
-    let a = turn.before.before.args in (
+    let a = c.args in (
       omega arith,
       subst⁻¹
-          (λ (r : List ℕ). Cleared a.q.now r a.j (turn.loop.u + 1))
-          c.before.before.put-row.ensures
-          (one_more (omega arith) (omega arith) turn.loop.invariant.1),
+          (λ (r : List ℕ). Cleared a.q.now r a.j (c.loop-u.u + 1))
+          c.put_row.ensures
+          (one_more (omega arith) (omega arith) c.loop-u.invariant.1),
     )
 
-same_length : tie.Need-same-length invariant-loop decreases-loop
-same_length c = c.before.loop.invariant.1.only.same
+same_length : tie.Need-shape_of-q invariant-loop decreases-loop
+same_length c = c.loop-u.invariant.1.only.same
 
 returns : tie.Need-returns invariant-loop decreases-loop
 returns c =
-    let w = c.before.loop.invariant.1 in
+    let w = c.loop-u.invariant.1 in
     record { only = w.only; counts = w.counts; rows = λ u h. w.empty u (omega arith) }
 
 pub clear_spec : {M : Type 1} → statement M

@@ -94,72 +94,68 @@ one_more {q₀} {q} {j} {digit} {vars} {left} n room w =
         ∙ w.rows v l
         ∙ rw (rest_other 64 left n w.small v (eqb-false v t e)) refl
 
-abbrev invariant-loop : tie.invariant-loop
+abbrev invariant-loop : tie.invariant-loop-left
 invariant-loop q₀ j bit vars left₀ q left = Entering q₀ q j bit vars left
 
-abbrev decreases-loop : tie.decreases-loop
+abbrev decreases-loop : tie.decreases-loop-left
 decreases-loop q₀ j bit vars left₀ q left = left
 
-loop-holds : tie.Need-loop-init invariant-loop decreases-loop
-loop-holds c = begins _ _ _ _ c.before.ranges.vars.fits
+loop-holds : tie.Need-loop-left-init invariant-loop decreases-loop
+loop-holds c = begins _ _ _ _ c.ranges.vars.fits
 
-lowest-var-requires : tie.Need-lowest-var-requires invariant-loop decreases-loop
+lowest-var-requires : tie.Need-lowest_var-v-requires invariant-loop decreases-loop
 lowest-var-requires c κs = search rules
 
 -- there is a variable left
-some_left : (c : tie.In-loop invariant-loop decreases-loop) → is_zero c.before.loop.left ≡ false
-some_left c = nonzero _ c.loop-test.true
+some_left : (c : tie.In-loop-left invariant-loop decreases-loop) → is_zero c.loop-left.left ≡ false
+some_left c = nonzero _ c.loop-left-test.true
 
 -- and the lowest is one of the 64
-low : (c : tie.After-lowest-var invariant-loop decreases-loop) → c.lowest-var.result < 64
-low c = let at = c.before.before.loop in omega (arith, c.lowest-var.ensures, trailing_lt 64 at.left (some_left c.before) at.invariant.small)
+low : (c : tie.After-lowest_var-v invariant-loop decreases-loop) → c.lowest_var-v.result < 64
+low c = let at = c.loop-left in omega (arith, c.lowest_var-v.ensures, trailing_lt 64 at.left (some_left c.before) at.invariant.small)
 
 -- the table is as long as it was
-room : (c : tie.At-loop invariant-loop decreases-loop) → 131 * c.before.before.args.j + 131 ≤ length c.loop.q
-room c = omega (arith, c.loop.invariant.only.same, c.before.before.requires)
+room : (c : tie.At-loop-left invariant-loop decreases-loop) → 131 * c.args.j + 131 ≤ length c.loop-left.q
+room c = omega (arith, c.loop-left.invariant.only.same, c.requires)
 
-cast-v : tie.Need-overflow-cast-v invariant-loop decreases-loop
+cast-v : tie.Need-overflow_cast-v invariant-loop decreases-loop
 cast-v c = omega (arith, low c)
 
-add_row : tie.Need-overflow-add-row invariant-loop decreases-loop
-add_row c = omega (arith, low c.before)
+add_row : tie.Need-overflow_add-v invariant-loop decreases-loop
+add_row c = omega (arith, low c)
 
-row-requires : tie.Need-row-requires invariant-loop decreases-loop
-row-requires c κs = (room c.before.before.before, omega (arith, low c.before))
+row-requires : tie.Need-row-word-requires invariant-loop decreases-loop
+row-requires c κs = (room c.before.before, omega (arith, low c))
 
-add-put-row : tie.Need-overflow-add-put-row invariant-loop decreases-loop
-add-put-row c = omega (arith, low c.before.before.before)
+add-put-row : tie.Need-overflow_add-v-in-loop-left invariant-loop decreases-loop
+add-put-row c = omega (arith, low c.before.before)
 
-put-row-requires : tie.Need-put-row-requires invariant-loop decreases-loop
-put-row-requires c κs = (room c.before.before.before.before.before, omega (arith, low c.before.before.before))
+put-row-requires : tie.Need-put_row-requires invariant-loop decreases-loop
+put-row-requires c κs = (room c.before.before.before.before, omega (arith, low c.before.before))
 
-rest-of-requires : tie.Need-rest-of-requires invariant-loop decreases-loop
-rest-of-requires c κs = omega (arith, c.before.before.before.before.before.before.before.loop-test.true)
+rest-of-requires : tie.Need-rest_of-left-requires invariant-loop decreases-loop
+rest-of-requires c κs = omega (arith, c.loop-left-test.true)
 
-loop-less : tie.Need-loop-smaller invariant-loop decreases-loop
+loop-less : tie.Need-loop-left-smaller invariant-loop decreases-loop
 loop-less c =
-    let in_turn = c.before.before.before.before.before.before.before.before in
-    omega (arith, c.rest_of.ensures, rest_lt in_turn.before.loop.left (some_left in_turn))
+    omega (arith, c.rest_of-left.ensures, rest_lt c.loop-left.left (some_left c.before.before.before.before.before.before.before))
 
-loop-again : tie.Need-loop-preserved invariant-loop decreases-loop
+loop-again : tie.Need-loop-left-preserved invariant-loop decreases-loop
 loop-again c =
-    let put = c.before.before.before in
-    let row = put.before.before in
-    let low = row.before.before in
-    rw (put.put-row.ensures, row.row.ensures, low.lowest-var.ensures, c.rest_of.ensures)
-    (one_more (some_left low.before) (room low.before.before) low.before.before.loop.invariant)
+    rw (c.put_row.ensures, c.row-word.ensures, c.lowest_var-v.ensures, c.rest_of-left.ensures)
+    (one_more (some_left c.before.before.before.before.before.before.before) (room c.before.before.before.before.before.before.before.before) c.loop-left.invariant)
 
-same_length : tie.Need-same-length invariant-loop decreases-loop
-same_length c = c.before.loop.invariant.only.same
+same_length : tie.Need-shape_of-q invariant-loop decreases-loop
+same_length c = c.loop-left.invariant.only.same
 
 returns : tie.Need-returns invariant-loop decreases-loop
 returns c =
-    let w = c.before.loop.invariant in
+    let w = c.loop-left.invariant in
     record {
       only = w.only;
       counts = w.counts;
       others = w.others;
-      rows = λ v h. w.rows v h ∙ rw (c.loop-test.false, has_zero v, and-true) refl;
+      rows = λ v h. w.rows v h ∙ rw (c.loop-left-test.false, has_zero v, and-true) refl;
     }
 
 pub enter_spec : {M : Type 1} → statement M

@@ -6,7 +6,7 @@ use Rattle.rows.proofs.Cursors.{from_whole}
 use Rattle.rows.proofs.index.first.Statement.{statement}
 use Rattle.rows.proofs.index.first.Tie as tie
 
-returns : tie.Need-returns
+returns : tie.Need-returns-then-m-eq0
 returns c = (
   record { here = λ l. absurd (omega arith); left = λ l. absurd (omega arith) },
   record { after = omega arith; none = λ x a b below. absurd (omega arith) },
@@ -18,10 +18,10 @@ both-requires c κs = search rules
 seek-requires : tie.Need-seek-requires
 seek-requires c κs = search rules
 
-returns-2 : tie.Need-returns-2
+returns-2 : tie.Need-returns
 returns-2 c =
-    let a = c.before.before.before.before.args in
-    c.seek.ensures 0 (omega arith) (omega arith) (from_whole a.q.now a.u a.w 0 c.before.both.result c.before.both.ensures)
+    let a = c.args in
+    c.seek.ensures 0 (omega arith) (omega arith) (from_whole a.q.now a.u a.w 0 c.both.result c.both.ensures)
 
 pub first_spec : {M : Type 1} → statement M
 first_spec = tie.close (tie.spec returns both-requires seek-requires returns-2)

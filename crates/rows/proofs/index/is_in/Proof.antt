@@ -11,10 +11,10 @@ use Rattle.rows.proofs.index.is_in.Tie as tie
 row-requires : tie.Need-row-requires
 row-requires c κs = search rules
 
-cast-bit-of : tie.Need-overflow-cast-bit-of
+cast-bit-of : tie.Need-overflow_cast-i
 cast-bit-of c = search rules
 
-bit-of-requires : tie.Need-bit-of-requires
+bit-of-requires : tie.Need-bit_of-requires
 bit-of-requires c κs = search rules
 
 -- a digit is 1 where it stands for a true test
@@ -24,9 +24,8 @@ digit-one false = refl
 
 returns : tie.Need-returns
 returns c =
-    let read = c.before in
-    let b = read.before.before.args.i % 64 in
-    ap (λ (x : ℕ). eqb x 1) c.bit-of.ensures ∙ digit-one (has read.row.result b) ∙ ap (λ (x : ℕ). has x b) read.row.ensures
+    let b = c.args.i % 64 in
+    ap (λ (x : ℕ). eqb x 1) c.bit_of.ensures ∙ digit-one (has c.row.result b) ∙ ap (λ (x : ℕ). has x b) c.row.ensures
 
-pub is-in-spec : {M : Type 1} → statement M
-is-in-spec = tie.close (tie.spec row-requires cast-bit-of bit-of-requires returns)
+pub is_in_spec : {M : Type 1} → statement M
+is_in_spec = tie.close (tie.spec row-requires cast-bit-of bit-of-requires returns)

@@ -16,41 +16,41 @@ use Rattle.rows.specs.Index.{row_at, naming}
 use Rattle.rows.proofs.index.naming.Statement.{statement}
 use Rattle.rows.proofs.index.naming.Tie as tie
 
-abbrev invariant-loop : tie.invariant-loop
+abbrev invariant-loop : tie.invariant-loop-left
 invariant-loop q j k left₀ all₀ left all =
     (left < 2 ^ 64) × ((b x : ℕ) → ((v : ℕ) → v < 64 → has (row_at q j (naming v)) b ≡ has x v) → meets x k ≡ (has all b || meets x left))
 
-abbrev decreases-loop : tie.decreases-loop
+abbrev decreases-loop : tie.decreases-loop-left
 decreases-loop q j k left₀ all₀ left all = left
 
-loop-holds : tie.Need-loop-init invariant-loop decreases-loop
-loop-holds c = (c.before.ranges.k.fits, λ b x is. sym (ap (λ (p : Bool). p || meets x c.before.args.k) (has_zero b)))
+loop-holds : tie.Need-loop-left-init invariant-loop decreases-loop
+loop-holds c = (c.ranges.k.fits, λ b x is. sym (ap (λ (p : Bool). p || meets x c.args.k) (has_zero b)))
 
-lowest-var-requires : tie.Need-lowest-var-requires invariant-loop decreases-loop
+lowest-var-requires : tie.Need-lowest_var-v-requires invariant-loop decreases-loop
 lowest-var-requires c κs = search rules
 
 -- there is a variable left
-some_left : (c : tie.In-loop invariant-loop decreases-loop) → is_zero c.before.loop.left ≡ false
-some_left c = nonzero _ c.loop-test.true
+some_left : (c : tie.In-loop-left invariant-loop decreases-loop) → is_zero c.loop-left.left ≡ false
+some_left c = nonzero _ c.loop-left-test.true
 
 -- and the lowest is one of the 64
-low : (c : tie.After-lowest-var invariant-loop decreases-loop) → c.lowest-var.result < 64
-low c = let at = c.before.before.loop in omega (arith, c.lowest-var.ensures, trailing_lt 64 at.left (some_left c.before) at.invariant.0)
+low : (c : tie.After-lowest_var-v invariant-loop decreases-loop) → c.lowest_var-v.result < 64
+low c = let at = c.loop-left in omega (arith, c.lowest_var-v.ensures, trailing_lt 64 at.left (some_left c.before) at.invariant.0)
 
-cast-v : tie.Need-overflow-cast-v invariant-loop decreases-loop
+cast-v : tie.Need-overflow_cast-v invariant-loop decreases-loop
 cast-v c = omega (arith, low c)
 
-add_row : tie.Need-overflow-add-row invariant-loop decreases-loop
+add_row : tie.Need-overflow_add-v invariant-loop decreases-loop
 add_row c = omega (arith, low c)
 
-row-requires : tie.Need-row-requires invariant-loop decreases-loop
+row-requires : tie.Need-row-all-requires invariant-loop decreases-loop
 row-requires c κs = (search rules, omega (arith, low c))
 
-rest-of-requires : tie.Need-rest-of-requires invariant-loop decreases-loop
-rest-of-requires c κs = omega (arith, c.before.before.loop-test.true)
+rest-of-requires : tie.Need-rest_of-left-requires invariant-loop decreases-loop
+rest-of-requires c κs = omega (arith, c.loop-left-test.true)
 
-loop-less : tie.Need-loop-smaller invariant-loop decreases-loop
-loop-less c = omega (arith, c.rest_of.ensures, rest_lt c.before.before.before.before.loop.left (some_left c.before.before.before))
+loop-less : tie.Need-loop-left-smaller invariant-loop decreases-loop
+loop-less c = omega (arith, c.rest_of-left.ensures, rest_lt c.loop-left.left (some_left c.before.before.before))
 
 -- with those that name the lowest variable of y found, what is left of y is the rest
 found-more : (b x k all row y : ℕ)
@@ -66,25 +66,24 @@ found-more b x k all row y n h names e =
     ∙ sym (or_assoc (has all b) (has row b) rest)
     ∙ ap (λ (p : Bool). p || rest) (sym (has_or all row b))
 
-loop-again : tie.Need-loop-preserved invariant-loop decreases-loop
+loop-again : tie.Need-loop-left-preserved invariant-loop decreases-loop
 loop-again c =
-    let in_turn = c.before.before.before in
-    let at = in_turn.before.loop in (
+    let at = c.loop-left in (
       omega (arith, loop-less c, at.invariant.0),
       λ b x is.
-          rw c.rest_of.ensures
-          (found-more b x _ at.all c.before.row.result at.left (some_left in_turn) at.invariant.0
-          (ap (λ (r : ℕ). has r b) c.before.row.ensures ∙ is _ (low c.before.before) ∙ ap (has x) c.before.before.lowest-var.ensures)
+          rw c.rest_of-left.ensures
+          (found-more b x _ at.all c.row-all.result at.left (some_left c.before.before.before) at.invariant.0
+          (ap (λ (r : ℕ). has r b) c.row-all.ensures ∙ is _ (low c.before.before) ∙ ap (has x) c.lowest_var-v.ensures)
           (at.invariant.1 b x is)),
     )
 
 returns : tie.Need-returns invariant-loop decreases-loop
 returns c b x is =
-    let at = c.before.loop in
-    sym (at.invariant.1 b x is ∙ ap (λ (p : Bool). has at.all b || p) (ap (meets x) c.loop-test.false ∙ meets_zero x) ∙ or-false (has at.all b))
+    let at = c.loop-left in
+    sym (at.invariant.1 b x is ∙ ap (λ (p : Bool). has at.all b || p) (ap (meets x) c.loop-left-test.false ∙ meets_zero x) ∙ or-false (has at.all b))
 
-pub naming-spec : {M : Type 1} → statement M
-naming-spec =
+pub naming_spec : {M : Type 1} → statement M
+naming_spec =
     tie.close
     (tie.spec
     invariant-loop

@@ -9,22 +9,21 @@ use Rattle.rows.proofs.Cursors.{some_left, left_after}
 use Rattle.rows.proofs.index.next.Statement.{statement}
 use Rattle.rows.proofs.index.next.Tie as tie
 
-rest-of-requires : tie.Need-rest-of-requires
-rest-of-requires c κs = some_left c.before.requires.4 c.before.requires.3
+rest-of-requires : tie.Need-rest_of-requires
+rest-of-requires c κs = some_left c.requires.4 c.requires.3
 
 seek-requires : tie.Need-seek-requires
 seek-requires c κs = search rules
 
 returns : tie.Need-returns
 returns c =
-    let start = c.before.before.before in
-    let a = start.args in
+    let a = c.args in
     let n = a.at.number in
     let e : 64 * (n / 64) + (n % 64 + 1) ≡ n + 1 = omega arith in
     subst
     (λ (i : ℕ). Standing a.q.now a.m a.u a.w c.seek.result × Passed a.q.now a.m a.u a.w i c.seek.result)
     e
-    (c.seek.ensures (n % 64 + 1) (omega arith) (omega arith) (left_after start.requires.4 start.requires.3 (omega (arith, start.well_formed)) _ c.before.rest_of.ensures))
+    (c.seek.ensures (n % 64 + 1) (omega arith) (omega arith) (left_after c.requires.4 c.requires.3 (omega (arith, c.well_formed)) _ c.rest_of.ensures))
 
-pub next-spec : {M : Type 1} → statement M
-next-spec = tie.close (tie.spec rest-of-requires seek-requires returns)
+pub next_spec : {M : Type 1} → statement M
+next_spec = tie.close (tie.spec rest-of-requires seek-requires returns)

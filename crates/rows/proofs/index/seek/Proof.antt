@@ -11,65 +11,65 @@ use Rattle.rows.proofs.Cursors.{Seeking, seek_on, seek_ends, seek_finds}
 use Rattle.rows.proofs.index.seek.Statement.{statement}
 use Rattle.rows.proofs.index.seek.Tie as tie
 
-abbrev invariant-loop : tie.invariant-loop
+abbrev invariant-loop : tie.invariant-loop-left
 invariant-loop q m u w block word j₀ left₀ j left =
     (64 * j < m) × (left < 2 ^ 64) × ((low : ℕ) → low ≤ 64 → From q u w block low word → Seeking q m u w (64 * block + low) j left)
 
-abbrev decreases-loop : tie.decreases-loop
+abbrev decreases-loop : tie.decreases-loop-left
 decreases-loop q m u w block word j₀ left₀ j left = m - 64 * j
 
-loop-holds : tie.Need-loop-init invariant-loop decreases-loop
+loop-holds : tie.Need-loop-left-init invariant-loop decreases-loop
 loop-holds c = (
   omega arith,
-  c.before.ranges.word.fits,
+  c.ranges.word.fits,
   λ low h from. record { low = low; small = h; from = from; after = omega arith; none = λ k a b below. absurd (omega arith) },
 )
 
-add-j : tie.Need-overflow-add-j invariant-loop decreases-loop
+add-j : tie.Need-overflow_add-j invariant-loop decreases-loop
 add-j c = omega arith
 
-mul-if1 : tie.Need-overflow-mul-if1 invariant-loop decreases-loop
+mul-if1 : tie.Need-overflow_mul-j invariant-loop decreases-loop
 mul-if1 c = omega arith
 
-returns : tie.Need-returns invariant-loop decreases-loop
-returns c low h room from = seek_ends (c.before.before.loop.invariant.2 low h from) c.before.loop-test.true c.if1.true room _ refl
+returns : tie.Need-returns-then-m-j invariant-loop decreases-loop
+returns c low h room from = seek_ends (c.loop-left.invariant.2 low h from) c.loop-left-test.true c.if-m-j.true room _ refl
 
-both-requires : tie.Need-both-requires invariant-loop decreases-loop
+both-requires : tie.Need-both-left-requires invariant-loop decreases-loop
 both-requires c κs = (omega arith, search rules, search rules)
 
-loop-less : tie.Need-loop-smaller invariant-loop decreases-loop
+loop-less : tie.Need-loop-left-smaller invariant-loop decreases-loop
 loop-less c = omega arith
 
-loop-again : tie.Need-loop-preserved invariant-loop decreases-loop
+loop-again : tie.Need-loop-left-preserved invariant-loop decreases-loop
 loop-again c = (
   omega arith,
-  c.both.type-inv,
-  λ low h from. seek_on (c.before.before.before.loop.invariant.2 low h from) c.before.before.loop-test.true _ c.both.ensures,
+  c.both-left.type_inv,
+  λ low h from. seek_on (c.loop-left.invariant.2 low h from) c.loop-left-test.true _ c.both-left.ensures,
 )
 
-mul-t11 : tie.Need-overflow-mul-t11 invariant-loop decreases-loop
+mul-t11 : tie.Need-overflow_mul-result invariant-loop decreases-loop
 mul-t11 c = omega arith
 
-lowest-var-requires : tie.Need-lowest-var-requires invariant-loop decreases-loop
+lowest-var-requires : tie.Need-lowest_var-requires invariant-loop decreases-loop
 lowest-var-requires c κs = search rules
 
 -- the place of the lowest clause that is left
-place : (c : tie.After-lowest-var invariant-loop decreases-loop) → c.lowest-var.result < 64
-place c = let at = c.before.before.loop in omega (arith, c.lowest-var.ensures, trailing_lt 64 at.left (nonzero _ c.before.loop-test.false) at.invariant.1)
+place : (c : tie.After-lowest_var invariant-loop decreases-loop) → c.lowest_var.result < 64
+place c = let at = c.loop-left in omega (arith, c.lowest_var.ensures, trailing_lt 64 at.left (nonzero _ c.loop-left-test.false) at.invariant.1)
 
-cast-t13 : tie.Need-overflow-cast-t13 invariant-loop decreases-loop
+cast-t13 : tie.Need-overflow_cast-result invariant-loop decreases-loop
 cast-t13 c = omega (arith, place c)
 
-add-t14 : tie.Need-overflow-add-t14 invariant-loop decreases-loop
+add-t14 : tie.Need-overflow_add-result invariant-loop decreases-loop
 add-t14 c = omega (arith, place c)
 
-returns-2 : tie.Need-returns-2 invariant-loop decreases-loop
+returns-2 : tie.Need-returns invariant-loop decreases-loop
 returns-2 c low h room from =
-    let at = c.before.before.loop in
-    seek_finds (at.invariant.2 low h from) (nonzero _ c.before.loop-test.false) at.invariant.1 _ (ap (λ (t : ℕ). 64 * at.j + t) c.lowest-var.ensures) refl
+    let at = c.loop-left in
+    seek_finds (at.invariant.2 low h from) (nonzero _ c.loop-left-test.false) at.invariant.1 _ (ap (λ (t : ℕ). 64 * at.j + t) c.lowest_var.ensures) refl
 
-pub seek-spec : {M : Type 1} → statement M
-seek-spec =
+pub seek_spec : {M : Type 1} → statement M
+seek_spec =
     tie.close
     (tie.spec
     invariant-loop

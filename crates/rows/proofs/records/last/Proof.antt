@@ -11,22 +11,22 @@ use Rattle.rows.proofs.Tables.{sequents_next}
 use Rattle.rows.proofs.records.last.Statement.{statement}
 use Rattle.rows.proofs.records.last.Tie as tie
 
-returns : tie.Need-returns
+returns : tie.Need-returns-then-k-eq0
 unfolding sequents
-returns c = ap (λ (n : ℕ). last (sequents c.before.before.args.rs.now n)) (sym c.if1.true)
+returns c = ap (λ (n : ℕ). last (sequents c.args.rs.now n)) (sym c.if-k-eq0.true)
 
-sub-sequent-at : tie.Need-overflow-sub-sequent-at
+sub-sequent-at : tie.Need-overflow_sub-k
 sub-sequent-at c = search rules
 
-sequent-at-requires : tie.Need-sequent-at-requires
+sequent-at-requires : tie.Need-sequent_at-requires
 sequent-at-requires c κs = search rules
 
-returns-2 : tie.Need-returns-2
+returns-2 : tie.Need-returns
 returns-2 c =
-    let k = c.before.before.before.args.k in
-    let rs = c.before.before.before.args.rs.now in
+    let k = c.args.k in
+    let rs = c.args.rs.now in
     let e : k ≡ k - 1 + 1 = omega arith in
-    c.sequent-at.ensures ∙ sym (last_append no_dSequent (sequent_at rs (k - 1)) (sequents rs (k - 1))) ∙ rw (← sequents_next, ← e)
+    c.sequent_at.ensures ∙ sym (last_append no_dSequent (sequent_at rs (k - 1)) (sequents rs (k - 1))) ∙ rw (← sequents_next, ← e)
 
-pub last-spec : {M : Type 1} → statement M
-last-spec = tie.close (tie.spec returns sub-sequent-at sequent-at-requires returns-2)
+pub last_spec : {M : Type 1} → statement M
+last_spec = tie.close (tie.spec returns sub-sequent-at sequent-at-requires returns-2)

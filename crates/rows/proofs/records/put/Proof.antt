@@ -7,40 +7,40 @@ use Rattle.rows.specs.Rows.{put_sequent}
 use Rattle.rows.proofs.records.put.Statement.{statement}
 use Rattle.rows.proofs.records.put.Tie as tie
 
-mul-rs : tie.Need-overflow-mul-rs
+mul-rs : tie.Need-overflow_mul-rs
 mul-rs c = search rules
 
-mul-rs-2 : tie.Need-overflow-mul-rs-2
+mul-rs-2 : tie.Need-offset_bounds-rs-i
 mul-rs-2 c = search rules
 
-slice-write-rs : tie.Need-slice-write-rs
+slice-write-rs : tie.Need-bounds-rs-i
 slice-write-rs c = search rules
 
-mul-rs-3 : tie.Need-overflow-mul-rs-3
+mul-rs-3 : tie.Need-overflow_mul-rs-2
 mul-rs-3 c = search rules
 
-add-rs : tie.Need-overflow-add-rs
+add-rs : tie.Need-overflow_add-rs
 add-rs c = search rules
 
-mul-rs-4 : tie.Need-overflow-mul-rs-4
+mul-rs-4 : tie.Need-offset_bounds-rs-i-2
 mul-rs-4 c = search rules
 
-slice-write-rs-2 : tie.Need-slice-write-rs-2
+slice-write-rs-2 : tie.Need-bounds-rs-i-2
 slice-write-rs-2 c = simp length-set (omega arith)
 
-mul-rs-5 : tie.Need-overflow-mul-rs-5
+mul-rs-5 : tie.Need-overflow_mul-rs-3
 mul-rs-5 c = search rules
 
-add-rs-2 : tie.Need-overflow-add-rs-2
+add-rs-2 : tie.Need-overflow_add-rs-2
 add-rs-2 c = search rules
 
-mul-rs-6 : tie.Need-overflow-mul-rs-6
+mul-rs-6 : tie.Need-offset_bounds-rs-i-3
 mul-rs-6 c = search rules
 
-slice-write-rs-3 : tie.Need-slice-write-rs-3
+slice-write-rs-3 : tie.Need-bounds-rs-i-3
 slice-write-rs-3 c = simp length-set (omega arith)
 
-same_length : tie.Need-same-length
+same_length : tie.Need-shape_of-rs
 same_length c = search rules
 
 returns : tie.Need-returns

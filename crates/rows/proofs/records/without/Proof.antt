@@ -63,16 +63,16 @@ module _ (rs₀ rs : List ℕ) (v i j : ℕ) (d : DSequent) (t : Through rs₀ v
         ahead = λ n l. put_other rs j d n (omega arith) ∙ t.ahead n (omega arith);
       }
 
-abbrev invariant-loop : tie.invariant-loop
+abbrev invariant-loop : tie.invariant-loop-i
 invariant-loop rs₀ k v i₀ j₀ rs i j = (i ≤ k) × Through rs₀ v rs i j
 
-abbrev decreases-loop : tie.decreases-loop
+abbrev decreases-loop : tie.decreases-loop-i
 decreases-loop rs₀ k v i₀ j₀ rs i j = k - i
 
-loop-holds : tie.Need-loop-init invariant-loop decreases-loop
+loop-holds : tie.Need-loop-i-init invariant-loop decreases-loop
 loop-holds c = (omega arith, start _ _)
 
-sequent-at-requires : tie.Need-sequent-at-requires invariant-loop decreases-loop
+sequent-at-requires : tie.Need-sequent_at-d-requires invariant-loop decreases-loop
 sequent-at-requires c κs = omega arith
 
 meets-requires : tie.Need-meets-requires invariant-loop decreases-loop
@@ -81,42 +81,42 @@ meets-requires c κs = search rules
 put-requires : tie.Need-put-requires invariant-loop decreases-loop
 put-requires c κs = omega arith
 
-add-j : tie.Need-overflow-add-j invariant-loop decreases-loop
+add-j : tie.Need-overflow_add-j invariant-loop decreases-loop
 add-j c = omega arith
 
-add-i : tie.Need-overflow-add-i invariant-loop decreases-loop
+add-i : tie.Need-overflow_add-i invariant-loop decreases-loop
 add-i c = omega arith
 
-loop-less : tie.Need-loop-smaller invariant-loop decreases-loop
+loop-less : tie.Need-loop-i-smaller invariant-loop decreases-loop
 loop-less c = omega arith
 
-loop-again : tie.Need-loop-preserved invariant-loop decreases-loop
+loop-again : tie.Need-loop-i-preserved invariant-loop decreases-loop
 loop-again c = (
   omega arith,
   ⊎_elim
       (λ w.
       rw (w.5 ∙ w.2.ensures, w.6)
-      (keep _ _ _ _ _ _ c.before.before.before.before.before.loop.invariant.1 c.before.before.sequent-at.ensures
-      (sym c.before.meets.ensures ∙ not-true _ w.0.taken)
+      (keep _ _ _ _ _ _ c.loop-i.invariant.1 c.sequent_at-d.ensures
+      (sym c.meets.ensures ∙ not-true _ w.0.taken)
       (omega arith)))
       (λ w.
       rw (w.1, w.2)
-      (leave _ _ _ _ _ _ c.before.before.before.before.before.loop.invariant.1 c.before.before.sequent-at.ensures
-      (sym c.before.meets.ensures ∙ not-false _ w.0.left)))
-      c.if1.branch,
+      (leave _ _ _ _ _ _ c.loop-i.invariant.1 c.sequent_at-d.ensures
+      (sym c.meets.ensures ∙ not-false _ w.0.left)))
+      c.if-not-meets.branch,
 )
 
-same_length : tie.Need-same-length invariant-loop decreases-loop
-same_length c = c.before.loop.invariant.1.long
+same_length : tie.Need-shape_of-rs invariant-loop decreases-loop
+same_length c = c.loop-i.invariant.1.long
 
 returns : tie.Need-returns invariant-loop decreases-loop
 returns c =
-    let t = c.before.loop.invariant.1 in
-    let i≡k : c.before.loop.i ≡ c.before.before.before.args.k = omega arith in
+    let t = c.loop-i.invariant.1 in
+    let i≡k : c.loop-i.i ≡ c.args.k = omega arith in
     record { kept = rw i≡k at t.kept; few = omega arith }
 
-pub without-spec : {M : Type 1} → statement M
-without-spec =
+pub without_spec : {M : Type 1} → statement M
+without_spec =
     tie.close
     (tie.spec
     invariant-loop

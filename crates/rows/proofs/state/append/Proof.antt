@@ -14,19 +14,18 @@ use Rattle.rows.proofs.state.append.Tie as tie
 put-requires : tie.Need-put-requires
 put-requires c κs = search rules
 
-add-t12 : tie.Need-overflow-add-t12
+add-t12 : tie.Need-overflow_add-result
 add-t12 c = search rules
 
-same_length : tie.Need-same-length
+same_length : tie.Need-shape_of-rs
 same_length c = search rules
 
 returns : tie.Need-returns
 returns c t =
-    let p = c.before.before.put in
-    let start = c.before.before.before.before.before.before in
-    let s = start.args.s in
+    let p = c.put in
+    let s = c.args.s in
     let state : List DSequent → State = λ rs. record { table = clauses t s.clauses; records = rs; branchings = s.branchings } in
-    ap (λ (l : List ℕ). state (sequents l (s.records + 1))) p.ensures ∙ ap state (put_at_end _ s.records _ start.requires)
+    ap (λ (l : List ℕ). state (sequents l (s.records + 1))) p.ensures ∙ ap state (put_at_end _ s.records _ c.requires)
 
-pub append-spec : {M : Type 1} → statement M
-append-spec = tie.close (tie.spec put-requires add-t12 same_length returns)
+pub append_spec : {M : Type 1} → statement M
+append_spec = tie.close (tie.spec put-requires add-t12 same_length returns)

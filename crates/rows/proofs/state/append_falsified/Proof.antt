@@ -19,20 +19,18 @@ undecided-requires c κs = search rules
 append-requires : tie.Need-append-requires
 append-requires c κs = search rules
 
-same_length : tie.Need-same-length
+same_length : tie.Need-shape_of-rs
 same_length c = search rules
 
 returns : tie.Need-returns
 returns c t =
-    let d = c.before.before in
-    let start = d.before.before.before.before.before.before in
-    let a = start.args in
-    d.append.ensures t
+    let a = c.args in
+    c.append.ensures t
     ∙
     ap₂ (λ (on k : ℕ). append (assignment_of a.a) on k (state_of t a.rs.now a.s))
-    (ap (λ (x : ℕ). bit_and x a.a.decided) d.before.before.before.vars.ensures)
-    d.before.undecided.ensures
+    (ap (λ (x : ℕ). bit_and x a.a.decided) c.vars.ensures)
+    c.undecided.ensures
 
-pub append-falsified-spec : {M : Type 1} → statement M
-append-falsified-spec =
+pub append_falsified_spec : {M : Type 1} → statement M
+append_falsified_spec =
     tie.close (tie.spec vars-requires undecided-requires append-requires same_length returns)

@@ -8,7 +8,7 @@ use Rattle.steps.specs.State.{undecided}
 use Rattle.rows.proofs.state.undecided.Statement.{statement}
 use Rattle.rows.proofs.state.undecided.Tie as tie
 
-first-of-requires : tie.Need-first-of-requires
+first-of-requires : tie.Need-first_of-requires
 first-of-requires c κs = search rules
 
 minus-requires : tie.Need-minus-requires
@@ -17,9 +17,8 @@ minus-requires c κs = search rules
 returns : tie.Need-returns
 unfolding undecided
 returns c =
-    let s = c.before.before in
-    let few : min s.args.e.vars 64 ≡ s.args.e.vars = omega (arith, s.requires) in
-    c.minus.ensures ∙ ap (λ x. minus x s.args.a.decided) (c.before.first_of.ensures ∙ ap first_vars few)
+    let few : min c.args.e.vars 64 ≡ c.args.e.vars = omega (arith, c.requires) in
+    c.minus.ensures ∙ ap (λ x. minus x c.args.a.decided) (c.first_of.ensures ∙ ap first_vars few)
 
-pub undecided-spec : {M : Type 1} → statement M
-undecided-spec = tie.close (tie.spec first-of-requires minus-requires returns)
+pub undecided_spec : {M : Type 1} → statement M
+undecided_spec = tie.close (tie.spec first-of-requires minus-requires returns)

@@ -17,56 +17,53 @@ use Rattle.rows.proofs.Reading.{falsified_is, falsified_out, walk_begins, walk_g
 use Rattle.rows.proofs.table.any_falsified.Statement.{statement}
 use Rattle.rows.proofs.table.any_falsified.Tie as tie
 
-abbrev invariant-loop : tie.invariant-loop
+abbrev invariant-loop : tie.invariant-loop-at
 invariant-loop q m at₀ at =
     Standing q m playing playing at
     × ((t : List ℕ) (a : Assignment) (k : ℕ) → meets k a.decided ≡ false → Tallied t q m a k → NoneBelow (falsified a) (clause_at t) m at.number)
 
-abbrev decreases-loop : tie.decreases-loop
+abbrev decreases-loop : tie.decreases-loop-at
 decreases-loop q m at₀ at = m - at.number
 
-first-requires : tie.Need-first-requires invariant-loop decreases-loop
+first-requires : tie.Need-first-at-requires invariant-loop decreases-loop
 first-requires c κs = search rules
 
-loop-holds : tie.Need-loop-init invariant-loop decreases-loop
-loop-holds c = (c.first.ensures.0, λ t a k apart tallied. walk_begins _ (falsified_out tallied apart) c.first.ensures.1)
+loop-holds : tie.Need-loop-at-init invariant-loop decreases-loop
+loop-holds c = (c.first-at.ensures.0, λ t a k apart tallied. walk_begins _ (falsified_out tallied apart) c.first-at.ensures.1)
 
 count-requires : tie.Need-count-requires invariant-loop decreases-loop
 count-requires c κs = omega arith
 
-is-falsified-requires : tie.Need-is-falsified-requires invariant-loop decreases-loop
+is-falsified-requires : tie.Need-is_falsified-requires invariant-loop decreases-loop
 is-falsified-requires c κs = search rules
 
-returns : tie.Need-returns invariant-loop decreases-loop
+returns : tie.Need-returns-then-is_falsified invariant-loop decreases-loop
 unfolding clauses
 returns c t a k apart tallied =
-    let read = c.before.before in
-    let below = read.before.if1.true in
-    sym (any_at _ _ _ _ below (read.before.before.before.loop.invariant.1 t a k apart tallied)
-    (falsified_is tallied _ below read.count.ensures c.before.is-falsified.ensures ∙ c.if2.true))
+    let below = c.loop-at-test.true in
+    sym (any_at _ _ _ _ below (c.loop-at.invariant.1 t a k apart tallied)
+    (falsified_is tallied _ below c.count.ensures c.is_falsified.ensures ∙ c.if-is_falsified.true))
 
-next-requires : tie.Need-next-requires invariant-loop decreases-loop
+next-requires : tie.Need-next-at-requires invariant-loop decreases-loop
 next-requires c κs = search rules
 
-loop-less : tie.Need-loop-smaller invariant-loop decreases-loop
-loop-less c = omega (arith, c.next.ensures.1.after)
+loop-less : tie.Need-loop-at-smaller invariant-loop decreases-loop
+loop-less c = omega (arith, c.next-at.ensures.1.after)
 
-loop-again : tie.Need-loop-preserved invariant-loop decreases-loop
+loop-again : tie.Need-loop-at-preserved invariant-loop decreases-loop
 loop-again c = (
-  c.next.ensures.0,
+  c.next-at.ensures.0,
   λ t a k apart tallied.
-      let is = c.before.before in
-      let read = is.before in
-      walk_goes _ (falsified_out tallied apart) (read.before.before.before.loop.invariant.1 t a k apart tallied)
-      (falsified_is tallied _ read.before.if1.true read.count.ensures is.is-falsified.ensures ∙ c.before.if2.false) c.next.ensures.1,
+      walk_goes _ (falsified_out tallied apart) (c.loop-at.invariant.1 t a k apart tallied)
+      (falsified_is tallied _ c.loop-at-test.true c.count.ensures c.is_falsified.ensures ∙ c.if-is_falsified.false) c.next-at.ensures.1,
 )
 
-returns-2 : tie.Need-returns-2 invariant-loop decreases-loop
+returns-2 : tie.Need-returns invariant-loop decreases-loop
 unfolding clauses
-returns-2 c t a k apart tallied = sym (any_none _ _ _ _ c.if1.false (c.before.before.loop.invariant.1 t a k apart tallied))
+returns-2 c t a k apart tallied = sym (any_none _ _ _ _ c.loop-at-test.false (c.loop-at.invariant.1 t a k apart tallied))
 
-pub any-falsified-spec : {M : Type 1} → statement M
-any-falsified-spec =
+pub any_falsified_spec : {M : Type 1} → statement M
+any_falsified_spec =
     tie.close
     (tie.spec
     invariant-loop

@@ -27,7 +27,7 @@ use Rattle.rows.proofs.table.cover.Tie as tie
 whole : (a : Assignment) (c d : Clause) → falsified a c ≡ true → falsified a d ≡ false → covers d c ≡ false
 whole a c d f h = refuted (covers d c) (λ o. both_ways (falsified a d) (true_falsified a d (covers_falsified a d c o (falsified_true a c f))) h)
 
-abbrev invariant-loop : tie.invariant-loop
+abbrev invariant-loop : tie.invariant-loop-at
 invariant-loop t q m c at₀ at =
     Standing q m playing playing at
     × ((a : Assignment) (k : ℕ)
@@ -36,68 +36,63 @@ invariant-loop t q m c at₀ at =
     → Tallied t q m a k
     → NoneBelow (λ d. covers d (clause_of c)) (clause_at t) m at.number)
 
-abbrev decreases-loop : tie.decreases-loop
+abbrev decreases-loop : tie.decreases-loop-at
 decreases-loop t q m c at₀ at = m - at.number
 
-first-requires : tie.Need-first-requires invariant-loop decreases-loop
+first-requires : tie.Need-first-at-requires invariant-loop decreases-loop
 first-requires c κs = search rules
 
-loop-holds : tie.Need-loop-init invariant-loop decreases-loop
+loop-holds : tie.Need-loop-at-init invariant-loop decreases-loop
 loop-holds c = (
-  c.first.ensures.0,
-  λ a k apart broken tallied. walk_begins _ (λ i h e. whole a _ _ broken (falsified_out tallied apart i h e)) c.first.ensures.1,
+  c.first-at.ensures.0,
+  λ a k apart broken tallied. walk_begins _ (λ i h e. whole a _ _ broken (falsified_out tallied apart i h e)) c.first-at.ensures.1,
 )
 
 count-requires : tie.Need-count-requires invariant-loop decreases-loop
 count-requires c κs = omega arith
 
-is-falsified-requires : tie.Need-is-falsified-requires invariant-loop decreases-loop
+is-falsified-requires : tie.Need-is_falsified-requires invariant-loop decreases-loop
 is-falsified-requires c κs = search rules
 
-clause-at-requires : tie.Need-clause-at-requires invariant-loop decreases-loop
+clause-at-requires : tie.Need-clause_at-d-requires invariant-loop decreases-loop
 clause-at-requires c κs = omega arith
 
 covers-requires : tie.Need-covers-requires invariant-loop decreases-loop
 covers-requires c κs = search rules
 
-returns : tie.Need-returns invariant-loop decreases-loop
+returns : tie.Need-returns-then-covers invariant-loop decreases-loop
 unfolding clauses
 returns c a k apart broken tallied =
-    let read = c.before.before in
-    let turn = read.before.before.before.before in
-    let g = turn.before.before.before.before.before.before.args in
-    let covered = ap (λ (d : Clause). covers d (clause_of g.c)) (sym read.clause-at.ensures) ∙ sym c.before.covers.ensures ∙ c.if3.true in
-    ap some read.clause-at.ensures
-    ∙ sym (find_at _ _ _ _ turn.if1.true (turn.before.before.loop.invariant.1 a k apart broken tallied) covered)
+    let g = c.args in
+    let covered = ap (λ (d : Clause). covers d (clause_of g.c)) (sym c.clause_at-d.ensures) ∙ sym c.covers.ensures ∙ c.if-covers.true in
+    ap some c.clause_at-d.ensures
+    ∙ sym (find_at _ _ _ _ c.loop-at-test.true (c.loop-at.invariant.1 a k apart broken tallied) covered)
 
-next-requires : tie.Need-next-requires invariant-loop decreases-loop
+next-requires : tie.Need-next-at-requires invariant-loop decreases-loop
 next-requires c κs = search rules
 
-loop-less : tie.Need-loop-smaller invariant-loop decreases-loop
-loop-less c = omega (arith, c.next.ensures.1.after)
+loop-less : tie.Need-loop-at-smaller invariant-loop decreases-loop
+loop-less c = omega (arith, c.next-at.ensures.1.after)
 
-loop-again : tie.Need-loop-preserved invariant-loop decreases-loop
+loop-again : tie.Need-loop-at-preserved invariant-loop decreases-loop
 loop-again c = (
-  c.next.ensures.0,
+  c.next-at.ensures.0,
   λ a k apart broken tallied.
-      let is = c.before.before in
-      let read = is.before in
-      let turn = read.before.before.before in
-      let g = turn.before.before.before.before.args in
-      walk_goes _ (λ i h e. whole a _ _ broken (falsified_out tallied apart i h e)) (turn.loop.invariant.1 a k apart broken tallied)
+      let g = c.args in
+      walk_goes _ (λ i h e. whole a _ _ broken (falsified_out tallied apart i h e)) (c.loop-at.invariant.1 a k apart broken tallied)
       (⊎_elim
       (λ w. ap (λ (d : Clause). covers d (clause_of g.c)) (sym w.1.ensures) ∙ sym w.2.ensures ∙ w.3.left)
-      (λ w. whole a _ _ broken (falsified_is tallied _ read.before.if1.true read.count.ensures is.is-falsified.ensures ∙ w.left))
-      c.before.if2.branch)
-      c.next.ensures.1,
+      (λ w. whole a _ _ broken (falsified_is tallied _ c.loop-at-test.true c.count.ensures c.is_falsified.ensures ∙ w.left))
+      c.if-is_falsified.branch)
+      c.next-at.ensures.1,
 )
 
-returns-2 : tie.Need-returns-2 invariant-loop decreases-loop
+returns-2 : tie.Need-returns invariant-loop decreases-loop
 unfolding clauses
-returns-2 c a k apart broken tallied = sym (find_none _ _ _ _ c.if1.false (c.before.before.loop.invariant.1 a k apart broken tallied))
+returns-2 c a k apart broken tallied = sym (find_none _ _ _ _ c.loop-at-test.false (c.loop-at.invariant.1 a k apart broken tallied))
 
-pub cover-spec : {M : Type 1} → statement M
-cover-spec =
+pub cover_spec : {M : Type 1} → statement M
+cover_spec =
     tie.close
     (tie.spec
     invariant-loop

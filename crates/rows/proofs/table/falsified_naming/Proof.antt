@@ -34,82 +34,75 @@ names-nothing : (v : ℕ) (c : Clause) → v ≡ 0 → names v c ≡ false
 unfolding names
 names-nothing v c h = rw h (meets_zero (vars c))
 
-abbrev invariant-loop : tie.invariant-loop
+abbrev invariant-loop : tie.invariant-loop-at
 invariant-loop t q m v at₀ at =
     Standing q m playing playing at
     × ((a : Assignment) (k : ℕ) → meets k a.decided ≡ false → Tallied t q m a k → NoneBelow (λ c. names v c && falsified a c) (clause_at t) m at.number)
 
-abbrev decreases-loop : tie.decreases-loop
+abbrev decreases-loop : tie.decreases-loop-at
 decreases-loop t q m v at₀ at = m - at.number
 
-returns : tie.Need-returns invariant-loop decreases-loop
+returns : tie.Need-returns-then-v-eq0 invariant-loop decreases-loop
 unfolding clauses falsified_naming
 returns c a k apart tallied =
-    let g = c.before.before.before.args in
-    sym (find_none _ _ g.m g.m (omega arith) (λ j l below. unnamed g.v a (clause_at g.t.now j) (names-nothing g.v (clause_at g.t.now j) c.if1.true)))
+    let g = c.args in
+    sym (find_none _ _ g.m g.m (omega arith) (λ j l below. unnamed g.v a (clause_at g.t.now j) (names-nothing g.v (clause_at g.t.now j) c.if-v-eq0.true)))
 
-first-requires : tie.Need-first-requires invariant-loop decreases-loop
+first-requires : tie.Need-first-at-requires invariant-loop decreases-loop
 first-requires c κs = search rules
 
-loop-holds : tie.Need-loop-init invariant-loop decreases-loop
+loop-holds : tie.Need-loop-at-init invariant-loop decreases-loop
 loop-holds c = (
-  c.first.ensures.0,
-  λ a k apart tallied. walk_begins _ (λ i h e. whole _ a _ (falsified_out tallied apart i h e)) c.first.ensures.1,
+  c.first-at.ensures.0,
+  λ a k apart tallied. walk_begins _ (λ i h e. whole _ a _ (falsified_out tallied apart i h e)) c.first-at.ensures.1,
 )
 
 count-requires : tie.Need-count-requires invariant-loop decreases-loop
 count-requires c κs = omega arith
 
-is-falsified-requires : tie.Need-is-falsified-requires invariant-loop decreases-loop
+is-falsified-requires : tie.Need-is_falsified-requires invariant-loop decreases-loop
 is-falsified-requires c κs = search rules
 
-clause-at-requires : tie.Need-clause-at-requires invariant-loop decreases-loop
+clause-at-requires : tie.Need-clause_at-c-requires invariant-loop decreases-loop
 clause-at-requires c κs = omega arith
 
 names-requires : tie.Need-names-requires invariant-loop decreases-loop
 names-requires c κs = search rules
 
-returns-2 : tie.Need-returns-2 invariant-loop decreases-loop
+returns-2 : tie.Need-returns-then-names invariant-loop decreases-loop
 unfolding clauses falsified_naming
 returns-2 c a k apart tallied =
-    let read = c.before.before in
-    let is = read.before.before in
-    let counted = is.before in
-    let turn = counted.before in
-    let g = turn.before.before.before.before.before.before.before.args in
-    let named = ap (names g.v) (sym read.clause-at.ensures) ∙ sym c.before.names.ensures ∙ c.if4.true in
-    ap some read.clause-at.ensures
-    ∙ sym (find_at _ _ _ _ turn.if2.true (turn.before.before.loop.invariant.1 a k apart tallied)
-    (and_both _ _ named (falsified_is tallied _ turn.if2.true counted.count.ensures is.is-falsified.ensures ∙ read.before.if3.true)))
+    let g = c.args in
+    let named = ap (names g.v) (sym c.clause_at-c.ensures) ∙ sym c.names.ensures ∙ c.if-names.true in
+    ap some c.clause_at-c.ensures
+    ∙ sym (find_at _ _ _ _ c.loop-at-test.true (c.loop-at.invariant.1 a k apart tallied)
+    (and_both _ _ named (falsified_is tallied _ c.loop-at-test.true c.count.ensures c.is_falsified.ensures ∙ c.if-is_falsified.true)))
 
-next-requires : tie.Need-next-requires invariant-loop decreases-loop
+next-requires : tie.Need-next-at-requires invariant-loop decreases-loop
 next-requires c κs = search rules
 
-loop-less : tie.Need-loop-smaller invariant-loop decreases-loop
-loop-less c = omega (arith, c.next.ensures.1.after)
+loop-less : tie.Need-loop-at-smaller invariant-loop decreases-loop
+loop-less c = omega (arith, c.next-at.ensures.1.after)
 
-loop-again : tie.Need-loop-preserved invariant-loop decreases-loop
+loop-again : tie.Need-loop-at-preserved invariant-loop decreases-loop
 loop-again c = (
-  c.next.ensures.0,
+  c.next-at.ensures.0,
   λ a k apart tallied.
-      let is = c.before.before in
-      let counted = is.before in
-      let turn = counted.before.before.before in
-      let v = turn.before.before.before.before.before.args.v in
-      walk_goes _ (λ i h e. whole v a _ (falsified_out tallied apart i h e)) (turn.loop.invariant.1 a k apart tallied)
+      let v = c.args.v in
+      walk_goes _ (λ i h e. whole v a _ (falsified_out tallied apart i h e)) (c.loop-at.invariant.1 a k apart tallied)
       (⊎_elim
       (λ w. unnamed v a _ (ap (names v) (sym w.1.ensures) ∙ sym w.2.ensures ∙ w.3.left))
-      (λ w. whole v a _ (falsified_is tallied _ counted.before.if2.true counted.count.ensures is.is-falsified.ensures ∙ w.left))
-      c.before.if3.branch)
-      c.next.ensures.1,
+      (λ w. whole v a _ (falsified_is tallied _ c.loop-at-test.true c.count.ensures c.is_falsified.ensures ∙ w.left))
+      c.if-is_falsified.branch)
+      c.next-at.ensures.1,
 )
 
-returns-3 : tie.Need-returns-3 invariant-loop decreases-loop
+returns-3 : tie.Need-returns invariant-loop decreases-loop
 unfolding clauses falsified_naming
-returns-3 c a k apart tallied = sym (find_none _ _ _ _ c.if2.false (c.before.before.loop.invariant.1 a k apart tallied))
+returns-3 c a k apart tallied = sym (find_none _ _ _ _ c.loop-at-test.false (c.loop-at.invariant.1 a k apart tallied))
 
-pub falsified-naming-spec : {M : Type 1} → statement M
-falsified-naming-spec =
+pub falsified_naming_spec : {M : Type 1} → statement M
+falsified_naming_spec =
     tie.close
     (tie.spec
     invariant-loop

@@ -42,43 +42,42 @@ in-play-out {t} {q} {m} {a} {k} sign {w} {v} is var x few i h out =
     (named_is x i h v (variable_below is var) ∙ literal_named sign c is var (and_right (not (inactive a k c)) (meets (literals sign c) w) p)))
     out)
 
-abbrev invariant-loop : tie.invariant-loop
+abbrev invariant-loop : tie.invariant-loop-at
 invariant-loop t q m v sign row at₀ at =
     Standing q m playing row at
     × ((a : Assignment) (k : ℕ) → Tallied t q m a k → NoneBelow (in_play (record { var = v; sign = sign }) a k) (clause_at t) m at.number)
 
-abbrev decreases-loop : tie.decreases-loop
+abbrev decreases-loop : tie.decreases-loop-at
 decreases-loop t q m v sign row at₀ at = m - at.number
 
-lowest-var-requires : tie.Need-lowest-var-requires invariant-loop decreases-loop
+lowest-var-requires : tie.Need-lowest_var-requires invariant-loop decreases-loop
 lowest-var-requires c κs = search rules
 
 -- the variable is one of the 64
-low : (c : tie.After-lowest-var invariant-loop decreases-loop) → c.lowest-var.result < 64
-low c = variable_below c.lowest-var.ensures c.before.before.before.requires.2
+low : (c : tie.After-lowest_var invariant-loop decreases-loop) → c.lowest_var.result < 64
+low c = variable_below c.lowest_var.ensures c.requires.2
 
-cast-row : tie.Need-overflow-cast-row invariant-loop decreases-loop
+cast-row : tie.Need-overflow_cast-row invariant-loop decreases-loop
 cast-row c = omega (arith, low c)
 
-add_row : tie.Need-overflow-add-row invariant-loop decreases-loop
+add_row : tie.Need-overflow_add-row invariant-loop decreases-loop
 add_row c = omega (arith, low c)
 
-first-requires : tie.Need-first-requires invariant-loop decreases-loop
+first-requires : tie.Need-first-at-requires invariant-loop decreases-loop
 first-requires c κs = (search rules, omega arith, omega (arith, low c))
 
 -- fewer than 128 decisions satisfy a clause
-few : (c : tie.After-first invariant-loop decreases-loop) (a : Assignment) (i : ℕ) → ones (keepers a (clause_at c.before.before.before.before.args.t.now i)) < 128
-few c a i = few_at c.before.before.before.before.args.t.now (λ j. (c.before.before.before.shared-slice-known.given j).fits) a i
+few : (c : tie.After-first-at invariant-loop decreases-loop) (a : Assignment) (i : ℕ) → ones (keepers a (clause_at c.args.t.now i)) < 128
+few c a i = few_at c.args.t.now (λ j. (c.shared_slice_known-1.given j).fits) a i
 
-loop-holds : tie.Need-loop-init invariant-loop decreases-loop
+loop-holds : tie.Need-loop-at-init invariant-loop decreases-loop
 loop-holds c = (
-  c.first.ensures.0,
+  c.first-at.ensures.0,
   λ a k tallied.
-      let start = c.before.before.before.before in
-      walk_begins _ (in-play-out start.args.sign c.before.lowest-var.ensures start.requires.2 tallied (few c a)) c.first.ensures.1,
+      walk_begins _ (in-play-out c.args.sign c.lowest_var.ensures c.requires.2 tallied (few c a)) c.first-at.ensures.1,
 )
 
-clause-at-requires : tie.Need-clause-at-requires invariant-loop decreases-loop
+clause-at-requires : tie.Need-clause_at-c-requires invariant-loop decreases-loop
 clause-at-requires c κs = omega arith
 
 literals-requires : tie.Need-literals-requires invariant-loop decreases-loop
@@ -91,48 +90,40 @@ meets-requires c κs = search rules
 with-literal : (sign : Bool) (v : ℕ) {x y : Clause} {l : ℕ} {b : Bool} → x ≡ y → l ≡ literals sign x → b ≡ meets l v → meets (literals sign y) v ≡ b
 with-literal sign v e f g = cc
 
-returns : tie.Need-returns invariant-loop decreases-loop
+returns : tie.Need-returns-then-meets invariant-loop decreases-loop
 unfolding clauses
 returns c a k tallied =
-    let read = c.before.before.before in
-    let turn = read.before.before.before in
-    let g = turn.before.before.before.before.before.args in
-    let below = read.before.if1.true in
-    ap some read.clause-at.ensures
-    ∙ sym (find_at _ _ _ _ below (turn.loop.invariant.1 a k tallied)
+    let g = c.args in
+    let below = c.loop-at-test.true in
+    ap some c.clause_at-c.ensures
+    ∙ sym (find_at _ _ _ _ below (c.loop-at.invariant.1 a k tallied)
     (and_both _ _
-    (sym (playing_is tallied _ below (few turn.before a _)) ∙ and_left _ _ (turn.loop.invariant.0.here below))
-    (with-literal g.sign g.v read.clause-at.ensures c.before.before.literals.ensures c.before.meets.ensures ∙ c.if2.true)))
+    (sym (playing_is tallied _ below (few c.before.before.before.before.before.before.before a _)) ∙ and_left _ _ (c.loop-at.invariant.0.here below))
+    (with-literal g.sign g.v c.clause_at-c.ensures c.literals.ensures c.meets.ensures ∙ c.if-meets.true)))
 
-next-requires : tie.Need-next-requires invariant-loop decreases-loop
+next-requires : tie.Need-next-at-requires invariant-loop decreases-loop
 next-requires c κs =
-    let turn = c.before.before.before.before.before.before in
-    (search rules, omega arith, omega (arith, low turn.before.before), search rules, turn.loop.invariant.0)
+    (search rules, omega arith, omega (arith, low c.before.before.before.before.before.before.before.before), search rules, c.loop-at.invariant.0)
 
-loop-less : tie.Need-loop-smaller invariant-loop decreases-loop
-loop-less c = omega (arith, c.next.ensures.1.after)
+loop-less : tie.Need-loop-at-smaller invariant-loop decreases-loop
+loop-less c = omega (arith, c.next-at.ensures.1.after)
 
-loop-again : tie.Need-loop-preserved invariant-loop decreases-loop
+loop-again : tie.Need-loop-at-preserved invariant-loop decreases-loop
 loop-again c = (
-  c.next.ensures.0,
+  c.next-at.ensures.0,
   λ a k tallied.
-      let read = c.before.before.before.before in
-      let turn = read.before.before.before in
-      let low = turn.before.before in
-      let start = low.before.before.before in
-      let g = start.args in
-      let tested = c.before.before in
-      let fails = with-literal g.sign g.v read.clause-at.ensures tested.before.literals.ensures tested.meets.ensures ∙ c.before.if2.false in
-      walk_goes _ (in-play-out g.sign low.lowest-var.ensures start.requires.2 tallied (few turn.before a)) (turn.loop.invariant.1 a k tallied)
-      (rw fails (and-false (not (inactive a k (clause_at g.t.now turn.loop.at.number))))) c.next.ensures.1,
+      let g = c.args in
+      let fails = with-literal g.sign g.v c.clause_at-c.ensures c.literals.ensures c.meets.ensures ∙ c.if-meets.false in
+      walk_goes _ (in-play-out g.sign c.lowest_var.ensures c.requires.2 tallied (few c.before.before.before.before.before.before.before.before a)) (c.loop-at.invariant.1 a k tallied)
+      (rw fails (and-false (not (inactive a k (clause_at g.t.now c.loop-at.at.number))))) c.next-at.ensures.1,
 )
 
-returns-2 : tie.Need-returns-2 invariant-loop decreases-loop
+returns-2 : tie.Need-returns invariant-loop decreases-loop
 unfolding clauses
-returns-2 c a k tallied = sym (find_none _ _ _ _ c.if1.false (c.before.before.loop.invariant.1 a k tallied))
+returns-2 c a k tallied = sym (find_none _ _ _ _ c.loop-at-test.false (c.loop-at.invariant.1 a k tallied))
 
-pub in-play-spec : {M : Type 1} → statement M
-in-play-spec =
+pub in_play_spec : {M : Type 1} → statement M
+in_play_spec =
     tie.close
     (tie.spec
     invariant-loop

@@ -7,28 +7,28 @@ use Rattle.rows.specs.Rows.{put_clause}
 use Rattle.rows.proofs.table.put.Statement.{statement}
 use Rattle.rows.proofs.table.put.Tie as tie
 
-mul-t : tie.Need-overflow-mul-t
+mul-t : tie.Need-overflow_mul-t
 mul-t c = search rules
 
-mul-t-2 : tie.Need-overflow-mul-t-2
+mul-t-2 : tie.Need-offset_bounds-t-i
 mul-t-2 c = search rules
 
-slice-write-t : tie.Need-slice-write-t
+slice-write-t : tie.Need-bounds-t-i
 slice-write-t c = search rules
 
-mul-t-3 : tie.Need-overflow-mul-t-3
+mul-t-3 : tie.Need-overflow_mul-t-2
 mul-t-3 c = search rules
 
-add-t : tie.Need-overflow-add-t
+add-t : tie.Need-overflow_add-t
 add-t c = search rules
 
-mul-t-4 : tie.Need-overflow-mul-t-4
+mul-t-4 : tie.Need-offset_bounds-t-i-2
 mul-t-4 c = search rules
 
-slice-write-t-2 : tie.Need-slice-write-t-2
+slice-write-t-2 : tie.Need-bounds-t-i-2
 slice-write-t-2 c = simp length-set (omega arith)
 
-same_length : tie.Need-same-length
+same_length : tie.Need-shape_of-t
 same_length c = search rules
 
 returns : tie.Need-returns

@@ -29,74 +29,67 @@ unit-is : {t q : List ℕ} {m : ℕ} {a : Assignment} {k : ℕ} {b : Bool}
 unit-is {t} {q} x few i h e =
     sym (single_is x i h (few i)) ∙ ap (λ (p : Bool). p && is_single (count_of q i)) (sym (and_self (is_in q playing i)) ∙ e)
 
-abbrev invariant-loop : tie.invariant-loop
+abbrev invariant-loop : tie.invariant-loop-at
 invariant-loop t q m at₀ at =
     Standing q m playing playing at × ((a : Assignment) (k : ℕ) → Tallied t q m a k → NoneBelow (unit a k) (clause_at t) m at.number)
 
-abbrev decreases-loop : tie.decreases-loop
+abbrev decreases-loop : tie.decreases-loop-at
 decreases-loop t q m at₀ at = m - at.number
 
-first-requires : tie.Need-first-requires invariant-loop decreases-loop
+first-requires : tie.Need-first-at-requires invariant-loop decreases-loop
 first-requires c κs = search rules
 
 -- fewer than 128 decisions satisfy a clause
-few : (c : tie.After-first invariant-loop decreases-loop) (a : Assignment) (i : ℕ) → ones (keepers a (clause_at c.before.before.before.args.t.now i)) < 128
-few c a i = few_at c.before.before.before.args.t.now (λ j. (c.before.before.shared-slice-known.given j).fits) a i
+few : (c : tie.After-first-at invariant-loop decreases-loop) (a : Assignment) (i : ℕ) → ones (keepers a (clause_at c.args.t.now i)) < 128
+few c a i = few_at c.args.t.now (λ j. (c.shared_slice_known-1.given j).fits) a i
 
-loop-holds : tie.Need-loop-init invariant-loop decreases-loop
-loop-holds c = (c.first.ensures.0, λ a k tallied. walk_begins _ (unit-is tallied (few c a)) c.first.ensures.1)
+loop-holds : tie.Need-loop-at-init invariant-loop decreases-loop
+loop-holds c = (c.first-at.ensures.0, λ a k tallied. walk_begins _ (unit-is tallied (few c a)) c.first-at.ensures.1)
 
 count-requires : tie.Need-count-requires invariant-loop decreases-loop
 count-requires c κs = omega arith
 
-is-single-requires : tie.Need-is-single-requires invariant-loop decreases-loop
+is-single-requires : tie.Need-is_single-requires invariant-loop decreases-loop
 is-single-requires c κs = search rules
 
-clause-at-requires : tie.Need-clause-at-requires invariant-loop decreases-loop
+clause-at-requires : tie.Need-clause_at-requires invariant-loop decreases-loop
 clause-at-requires c κs = omega arith
 
 -- the test on the counts is the test on the clause, which is in play
-tested : (c : tie.After-is-single invariant-loop decreases-loop)
-    → let turn = c.before.before.before.before in
-    let g = turn.before.before.before.before.args in
+tested : (c : tie.After-is_single invariant-loop decreases-loop)
+    → let g = c.args in
     (a : Assignment) (k : ℕ)
     → Tallied g.t.now g.q.now g.m a k
-    → unit a k (clause_at g.t.now turn.loop.at.number) ≡ c.is-single.result
+    → unit a k (clause_at g.t.now c.loop-at.at.number) ≡ c.is_single.result
 tested c a k tallied =
-    let read = c.before in
-    let turn = read.before.before.before in
-    let below = read.before.if1.true in
-    unit-is tallied (few turn.before a) _ below (turn.loop.invariant.0.here below) ∙ ap is_single (sym read.count.ensures) ∙ sym c.is-single.ensures
+    let below = c.loop-at-test.true in
+    unit-is tallied (few c.before.before.before.before.before a) _ below (c.loop-at.invariant.0.here below) ∙ ap is_single (sym c.count.ensures) ∙ sym c.is_single.ensures
 
-returns : tie.Need-returns invariant-loop decreases-loop
+returns : tie.Need-returns-then-is_single invariant-loop decreases-loop
 unfolding clauses
 returns c a k tallied =
-    let is = c.before.before in
-    let turn = is.before.before in
-    ap some c.clause-at.ensures
-    ∙ sym (find_at _ _ _ _ turn.if1.true (turn.before.before.loop.invariant.1 a k tallied) (tested is a k tallied ∙ c.before.if2.true))
+    ap some c.clause_at.ensures
+    ∙ sym (find_at _ _ _ _ c.loop-at-test.true (c.loop-at.invariant.1 a k tallied) (tested c.before.before a k tallied ∙ c.if-is_single.true))
 
-next-requires : tie.Need-next-requires invariant-loop decreases-loop
+next-requires : tie.Need-next-at-requires invariant-loop decreases-loop
 next-requires c κs = search rules
 
-loop-less : tie.Need-loop-smaller invariant-loop decreases-loop
-loop-less c = omega (arith, c.next.ensures.1.after)
+loop-less : tie.Need-loop-at-smaller invariant-loop decreases-loop
+loop-less c = omega (arith, c.next-at.ensures.1.after)
 
-loop-again : tie.Need-loop-preserved invariant-loop decreases-loop
+loop-again : tie.Need-loop-at-preserved invariant-loop decreases-loop
 loop-again c = (
-  c.next.ensures.0,
+  c.next-at.ensures.0,
   λ a k tallied.
-      let is = c.before.before in
-      let turn = is.before.before.before.before in
-      walk_goes _ (unit-is tallied (few turn.before a)) (turn.loop.invariant.1 a k tallied) (tested is a k tallied ∙ c.before.if2.false) c.next.ensures.1,
+      walk_goes _ (unit-is tallied (few c.before.before.before.before.before.before.before a)) (c.loop-at.invariant.1 a k tallied) (tested c.before.before a k tallied ∙ c.if-is_single.false) c.next-at.ensures.1,
 )
 
-returns-2 : tie.Need-returns-2 invariant-loop decreases-loop
+returns-2 : tie.Need-returns invariant-loop decreases-loop
 unfolding clauses
-returns-2 c a k tallied = sym (find_none _ _ _ _ c.if1.false (c.before.before.loop.invariant.1 a k tallied))
+returns-2 c a k tallied = sym (find_none _ _ _ _ c.loop-at-test.false (c.loop-at.invariant.1 a k tallied))
 
-pub unit-clause-spec : {M : Type 1} → statement M
-unit-clause-spec =
+pub unit_clause_spec : {M : Type 1} → statement M
+unit_clause_spec =
     tie.close
     (tie.spec
     invariant-loop

@@ -13,22 +13,20 @@ put-requires c κs = search rules
 put-requires-2 : tie.Need-put-requires-2
 put-requires-2 c κs = search rules
 
-same_length : tie.Need-same-length
+same_length : tie.Need-shape_of-t
 same_length c = search rules
 
-same-length-2 : tie.Need-same-length-2
+same-length-2 : tie.Need-shape_of-q
 same-length-2 c = search rules
 
 returns : tie.Need-returns
 returns c =
-    let put = c.before.before.before.before.before.before in
-    let start = put.before.before.before.before in
-    let x = start.args in
-    let table = put.put.ensures in (
+    let x = c.args in
+    let table = c.put.ensures in (
       table,
       λ y.
           rw table
-          (c.before.before.put2.ensures _ (sym (put_clause_here x.t.now x.m _ start.requires.0)) (put_stays x.t.now _ y)),
+          (c.put-2.ensures _ (sym (put_clause_here x.t.now x.m _ c.requires.0)) (put_stays x.t.now _ y)),
     )
 
 pub add_spec : {M : Type 1} → statement M

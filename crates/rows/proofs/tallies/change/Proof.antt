@@ -15,54 +15,50 @@ use Rattle.rows.proofs.tallies.change.Tie as tie
 abbrev Right : List ℕ → List ℕ → ℕ → ℕ → Delta → List ℕ → ℕ → Type 0
 Right t q₀ m v d q j = (a b : Assignment) (k : ℕ) → Leads t m v d a b → Block t q₀ m j a k → Block t q m j b k
 
-abbrev invariant-loop : tie.invariant-loop
+abbrev invariant-loop : tie.invariant-loop-j
 invariant-loop t q₀ m v d j₀ q j = (64 * j < m + 64) × Walked (Right t q₀ m v d) q₀ q j
 
-abbrev decreases-loop : tie.decreases-loop
+abbrev decreases-loop : tie.decreases-loop-j
 decreases-loop t q₀ m v d j₀ q j = m - 64 * j
 
-loop-holds : tie.Need-loop-init invariant-loop decreases-loop
+loop-holds : tie.Need-loop-j-init invariant-loop decreases-loop
 loop-holds c = (omega arith, begins _)
 
-mul-loop : tie.Need-overflow-mul-loop invariant-loop decreases-loop
-mul-loop c = record { fits = omega (arith, c.before.before.before.requires.0, c.before.before.before.well_formed) }
+mul-loop : tie.Need-overflow_mul-j invariant-loop decreases-loop
+mul-loop c = record { fits = omega (arith, c.requires.0, c.well_formed) }
 
-change-block-requires : tie.Need-change-block-requires invariant-loop decreases-loop
+change-block-requires : tie.Need-change_block-requires invariant-loop decreases-loop
 change-block-requires c κs =
-    let walk = c.before.before.loop.invariant.1 in
-    shiftable_same (untouched walk) walk.same (c.before.before.before.before.before.requires.1 c.before.before.loop.j c.before.loop-test.true)
+    let walk = c.loop-j.invariant.1 in
+    shiftable_same (untouched walk) walk.same (c.requires.1 c.loop-j.j c.loop-j-test.true)
 
-add-j : tie.Need-overflow-add-j invariant-loop decreases-loop
-add-j c = record { fits = omega (arith, c.before.before.before.before.before.before.before.before.requires.0, c.before.before.before.before.before.before.before.before.well_formed) }
+add-j : tie.Need-overflow_add-j invariant-loop decreases-loop
+add-j c = record { fits = omega (arith, c.requires.0, c.well_formed) }
 
-loop-less : tie.Need-loop-smaller invariant-loop decreases-loop
+loop-less : tie.Need-loop-j-smaller invariant-loop decreases-loop
 loop-less c = omega arith
 
-loop-again : tie.Need-loop-preserved invariant-loop decreases-loop
+loop-again : tie.Need-loop-j-preserved invariant-loop decreases-loop
 loop-again c =
-    let made = c.before.before in
-    let in_turn = made.before.before in
-    let at = in_turn.before in
-    let start = at.before.before.before in
-    let walk = at.loop.invariant.1 in (
-      omega (arith, in_turn.loop-test.true),
+    let walk = c.loop-j.invariant.1 in (
+      omega (arith, c.loop-j-test.true),
       turned
           (λ q q' j same right a b k leads x. block_same same (right a b k leads x))
           walk
-          made.change-block.ensures.only
-          (λ a b k leads x. block_changed (start.requires.1 at.loop.j in_turn.loop-test.true).below made.change-block.ensures leads (block_same (untouched walk) x)),
+          c.change_block.ensures.only
+          (λ a b k leads x. block_changed (c.requires.1 c.loop-j.j c.loop-j-test.true).below c.change_block.ensures leads (block_same (untouched walk) x)),
     )
 
-same_length : tie.Need-same-length invariant-loop decreases-loop
-same_length c = c.before.loop.invariant.1.same
+same_length : tie.Need-shape_of-q invariant-loop decreases-loop
+same_length c = c.loop-j.invariant.1.same
 
 returns : tie.Need-returns invariant-loop decreases-loop
 returns c a b k leads x =
-    let g = c.before.before.before.before.args in
-    ends g.t.now g.m a b k k c.before.loop.invariant.1 c.loop-test.false (λ j below right. right a b k leads) x
+    let g = c.args in
+    ends g.t.now g.m a b k k c.loop-j.invariant.1 c.loop-j-test.false (λ j below right. right a b k leads) x
 
-pub change-spec : {M : Type 1} → statement M
-change-spec =
+pub change_spec : {M : Type 1} → statement M
+change_spec =
     tie.close
     (tie.spec
     invariant-loop

@@ -41,44 +41,38 @@ shifted-put {t} {q} {r} {q'} {j} {v} {d} {found} s p =
         (has_minus (row_at r j unsatisfied) (row_at q j (naming v)) b ∙ ap (λ (x : ℕ). has x b && not (has (row_at q j (naming v)) b)) (s.rows 1 (omega arith)))
         (s.unkept b h ∙ ap (λ (x : ℕ). has (row_at q j (naming v)) b && is_unsatisfied x) (sym (p.counts b h)))
 
-add_row : tie.Need-overflow-add-row
+add_row : tie.Need-overflow_add-v
 add_row c = search rules
 
-row-requires : tie.Need-row-requires
+row-requires : tie.Need-row-named-requires
 row-requires c κs = search rules
 
-shift-requires : tie.Need-shift-requires
+shift-requires : tie.Need-shift-open-requires
 shift-requires c κs = search rules
 
-row-requires-2 : tie.Need-row-requires-2
+row-requires-2 : tie.Need-row-requires
 row-requires-2 c κs = search rules
 
-minus-requires : tie.Need-minus-requires
+minus-requires : tie.Need-minus-others-requires
 minus-requires c κs = search rules
 
-row-requires-3 : tie.Need-row-requires-3
+row-requires-3 : tie.Need-row-requires-2
 row-requires-3 c κs = search rules
 
-put-rows-requires : tie.Need-put-rows-requires
+put-rows-requires : tie.Need-put_rows-requires
 put-rows-requires c κs = search rules
 
-same_length : tie.Need-same-length
+same_length : tie.Need-shape_of-q
 same_length c = search rules
 
 returns : tie.Need-returns
 returns c =
-    let put = c.before.before in
-    let third = put.before in
-    let others = third.before.before.before in
-    let second = others.before in
-    let shifted = second.before.before.before.before in
-    let first = shifted.before.before in
     shifted-put
-    (rw first.row.ensures at shifted.shift.ensures)
-    (rw (others.minus.ensures, second.row2.ensures, third.row3.ensures, first.row.ensures) at put.put-rows.ensures)
+    (rw c.row-named.ensures at c.shift-open.ensures)
+    (rw (c.minus-others.ensures, c.row.ensures, c.row-2.ensures, c.row-named.ensures) at c.put_rows.ensures)
 
-pub change-block-spec : {M : Type 1} → statement M
-change-block-spec =
+pub change_block_spec : {M : Type 1} → statement M
+change_block_spec =
     tie.close
     (tie.spec
     add_row

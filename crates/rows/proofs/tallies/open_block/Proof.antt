@@ -10,18 +10,17 @@ use Rattle.rows.proofs.tallies.open_block.Tie as tie
 clear-requires : tie.Need-clear-requires
 clear-requires c κs = search rules
 
-same_length : tie.Need-same-length
+same_length : tie.Need-shape_of-q
 same_length c = search rules
 
-returns : tie.Need-returns
+returns : tie.Need-returns-then-i-eq0
 returns c =
-    let cleared = c.before.before in
-    let e = cleared.clear.ensures in
-    let first = cleared.before.before.if1.true in
+    let e = c.clear.ensures in
+    let first = c.if-i-eq0.true in
     record { only = e.only; counts = e.counts; rows = λ u h. rw (eq-eqb _ 0 first) (e.rows u h) }
 
-returns-2 : tie.Need-returns-2
-returns-2 c = record { only = only_refl _ _; counts = λ b h. refl; rows = λ u h. rw (ne_eqb _ 0 c.if1.false) refl }
+returns-2 : tie.Need-returns-else-i-eq0
+returns-2 c = record { only = only_refl _ _; counts = λ b h. refl; rows = λ u h. rw (ne_eqb _ 0 c.if-i-eq0.false) refl }
 
-pub open-block-spec : {M : Type 1} → statement M
-open-block-spec = tie.close (tie.spec clear-requires same_length returns returns-2)
+pub open_block_spec : {M : Type 1} → statement M
+open_block_spec = tie.close (tie.spec clear-requires same_length returns returns-2)

@@ -9,107 +9,99 @@ use Rattle.rows.proofs.Additions.{Added, added, one_more}
 use Rattle.rows.proofs.tallies.put.Statement.{statement}
 use Rattle.rows.proofs.tallies.put.Tie as tie
 
-open-block-requires : tie.Need-open-block-requires
+open-block-requires : tie.Need-open_block-requires
 open-block-requires c κs = search rules
 
-counts-of-requires : tie.Need-counts-of-requires
+counts-of-requires : tie.Need-counts_of-x-requires
 counts-of-requires c κs = search rules
 
-mul-q : tie.Need-overflow-mul-q
+mul-q : tie.Need-overflow_mul-q
 mul-q c = search rules
 
-add-q : tie.Need-overflow-add-q
+add-q : tie.Need-overflow_add-q
 add-q c = search rules
 
-mul-q-2 : tie.Need-overflow-mul-q-2
+mul-q-2 : tie.Need-offset_bounds-q-j
 mul-q-2 c = search rules
 
-slice-write-q : tie.Need-slice-write-q
+slice-write-q : tie.Need-bounds-q-j
 slice-write-q c = search rules
 
-cast-word-of : tie.Need-overflow-cast-word-of
+cast-word-of : tie.Need-overflow_cast-b
 cast-word-of c = search rules
 
-word-of-requires : tie.Need-word-of-requires
+word-of-requires : tie.Need-word_of-requires
 word-of-requires c κs = search rules
 
 vars-requires : tie.Need-vars-requires
 vars-requires c κs = search rules
 
 -- there is room for the block
-room : (c : tie.After-open-block) → 131 * (c.before.before.before.args.i / 64) + 131 ≤ length c.open_block.new.0
-room c = omega (arith, c.open_block.ensures.only.same, c.before.before.before.requires)
+room : (c : tie.After-open_block) → 131 * (c.args.i / 64) + 131 ≤ length c.open_block.new.q
+room c = omega (arith, c.open_block.ensures.only.same, c.requires)
 
 enter-requires : tie.Need-enter-requires
 enter-requires c κs = rw length-set (room c.before.before.before.before.before.before)
 
 -- the block was opened before the clause entered the rows
-abbrev opened : tie.After-enter → tie.After-open-block
+abbrev opened : tie.After-enter → tie.After-open_block
 opened c = c.before.before.before.before.before.before.before
 
 -- and there is room still
-room-then : (c : tie.After-enter) → 131 * ((opened c).before.before.before.args.i / 64) + 131 ≤ length c.enter.new.0
+room-then : (c : tie.After-enter) → 131 * ((opened c).args.i / 64) + 131 ≤ length c.enter.new.q
 room-then c = rw (c.enter.ensures.only.same, length-set) (room (opened c))
 
 row-requires : tie.Need-row-requires
-row-requires c κs = (room-then c.before.before.before, omega arith)
+row-requires c κs = (room-then c.before.before, omega arith)
 
-is-unsatisfied-requires : tie.Need-is-unsatisfied-requires
+is-unsatisfied-requires : tie.Need-is_unsatisfied-requires
 is-unsatisfied-requires c κs = search rules
 
-cast-mark : tie.Need-overflow-cast-mark
+cast-mark : tie.Need-overflow_cast-b-2
 cast-mark c = search rules
 
 mark-requires : tie.Need-mark-requires
 mark-requires c κs = search rules
 
 row-requires-2 : tie.Need-row-requires-2
-row-requires-2 c κs = (room-then c.before.before.before.before.before.before.before, omega arith)
+row-requires-2 c κs = (room-then c.before.before.before.before.before, omega arith)
 
 names-requires : tie.Need-names-requires
 names-requires c κs = search rules
 
-cast-mark-2 : tie.Need-overflow-cast-mark-2
+cast-mark-2 : tie.Need-overflow_cast-b-3
 cast-mark-2 c = search rules
 
 mark-requires-2 : tie.Need-mark-requires-2
 mark-requires-2 c κs = search rules
 
-put-rows-requires : tie.Need-put-rows-requires
-put-rows-requires c κs = room-then c.before.before.before.before.before.before.before.before.before.before.before
+put-rows-requires : tie.Need-put_rows-requires
+put-rows-requires c κs = room-then c.before.before.before.before.before.before.before.before.before
 
 -- the clause had entered the rows before the last store
-abbrev entered : tie.After-put-rows → tie.After-enter
+abbrev entered : tie.After-put_rows → tie.After-enter
 entered c = c.before.before.before.before.before.before.before.before.before.before.before.before
 
 -- all the stores
-stored : (c : tie.After-put-rows)
-    → let x = (opened (entered c)).before.before.before.args in Added x.q.now c.put-rows.new.0 x.i (clause_of x.c) (assignment_of x.a) x.k
+stored : (c : tie.After-put_rows)
+    → let x = (c (c c)).args in Added x.q.now c.put_rows.new.q x.i (clause_of x.c) (assignment_of x.a) x.k
 stored c =
-    let marked = c.before.before in
-    let named = marked.before in
-    let unkept = named.before.before.before in
-    let tested = unkept.before in
-    let entered = tested.before.before.before.before.before in
-    let vars = entered.before in
-    let counted = vars.before.before.before in
-    let opened = counted.before.before.before in
     added
-    opened.before.before.before.requires
-    opened.open_block.ensures
-    (rw (vars.vars.ensures, vars.before.word_of.ensures, counted.Counts-of.ensures) at entered.enter.ensures)
+    c.requires
+    c.open_block.ensures
+    (rw (c.vars.ensures, c.word_of.ensures, c.Counts-of.ensures) at c.enter.ensures)
     (rw (
-      named.before.row2.ensures,
-      marked.mark2.ensures,
-      named.names.ensures,
-      tested.before.row.ensures,
-      unkept.mark.ensures,
-      tested.is-unsatisfied.ensures,
-      counted.Counts-of.ensures,
+      c.row-2.ensures,
+      c.mark-2.ensures,
+      c.names.ensures,
+      c.row.ensures,
+      c.mark.ensures,
+      c.is_unsatisfied.ensures,
+      c.Counts-of.ensures,
     )
-    at c.put-rows.ensures)
+    at c.put_rows.ensures)
 
-same_length : tie.Need-same-length
+same_length : tie.Need-shape_of-q
 same_length c = (stored c.before.before).only.same
 
 returns : tie.Need-returns

@@ -41,32 +41,28 @@ stores q j x y room =
     z : ℕ
     z = minus x y
 
-put-row-requires : tie.Need-put-row-requires
+put-row-requires : tie.Need-put_row-requires
 put-row-requires c κs = search rules
 
-put-row-requires-2 : tie.Need-put-row-requires-2
+put-row-requires-2 : tie.Need-put_row-requires-2
 put-row-requires-2 c κs = search rules
 
 minus-requires : tie.Need-minus-requires
 minus-requires c κs = search rules
 
-put-row-requires-3 : tie.Need-put-row-requires-3
+put-row-requires-3 : tie.Need-put_row-requires-3
 put-row-requires-3 c κs = search rules
 
-same_length : tie.Need-same-length
+same_length : tie.Need-shape_of-q
 same_length c = search rules
 
 returns : tie.Need-returns
 returns c =
-    let third = c.before.before in
-    let second = third.before.before.before.before.before in
-    let first = second.before.before.before.before in
-    let start = first.before.before.before in
-    rw (third.put-row3.ensures, third.before.minus.ensures, second.put-row2.ensures, first.put-row.ensures)
-    (stores start.args.q.now start.args.j start.args.unkept start.args.marked start.requires)
+    rw (c.put_row-3.ensures, c.minus.ensures, c.put_row-2.ensures, c.put_row.ensures)
+    (stores c.args.q.now c.args.j c.args.unkept c.args.marked c.requires)
 
-pub put-rows-spec : {M : Type 1} → statement M
-put-rows-spec =
+pub put_rows_spec : {M : Type 1} → statement M
+put_rows_spec =
     tie.close
     (tie.spec
     put-row-requires

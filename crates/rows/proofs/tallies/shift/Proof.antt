@@ -140,116 +140,107 @@ module _ {t q₀ q : List ℕ} {j v : ℕ} {d : Delta} {named found left : ℕ} 
           ∙ or-false _
           ∙ sym (ap₂ (λ (p : Bool) (y : ℕ). p && is_unsatisfied y) (same b f) (put_count_other q j low x b (eqb-false b low f)))
 
-abbrev invariant-loop : tie.invariant-loop
+abbrev invariant-loop : tie.invariant-loop-left
 invariant-loop t q₀ m j v d named open₀ left₀ q «open» left = Shifting t q₀ q j v d named «open» left
 
-abbrev decreases-loop : tie.decreases-loop
+abbrev decreases-loop : tie.decreases-loop-left
 decreases-loop t q₀ m j v d named open₀ left₀ q «open» left = left
 
-loop-holds : tie.Need-loop-init invariant-loop decreases-loop
-loop-holds c = begins _ _ _ _ _ _ c.before.before.ranges.named.fits
+loop-holds : tie.Need-loop-left-init invariant-loop decreases-loop
+loop-holds c = begins _ _ _ _ _ _ c.ranges.named.fits
 
-lowest-var-requires : tie.Need-lowest-var-requires invariant-loop decreases-loop
+lowest-var-requires : tie.Need-lowest_var-b-requires invariant-loop decreases-loop
 lowest-var-requires c κs = search rules
 
 -- there is a clause left
-some_left : (c : tie.In-loop invariant-loop decreases-loop) → is_zero c.before.loop.left ≡ false
-some_left c = nonzero _ c.loop-test.true
+some_left : (c : tie.In-loop-left invariant-loop decreases-loop) → is_zero c.loop-left.left ≡ false
+some_left c = nonzero _ c.loop-left-test.true
 
 -- the lowest is one of the 64 of the block
-place : (c : tie.After-lowest-var invariant-loop decreases-loop) → c.lowest-var.result < 64
-place c = let at = c.before.before.loop in omega (arith, c.lowest-var.ensures, low-lt (some_left c.before) at.invariant)
+place : (c : tie.After-lowest_var-b invariant-loop decreases-loop) → c.lowest_var-b.result < 64
+place c = let at = c.loop-left in omega (arith, c.lowest_var-b.ensures, low-lt (some_left c.before) at.invariant)
 
 -- the table is as long as it was, and its bytes are numbered by a word
-room : (c : tie.At-loop invariant-loop decreases-loop) → (131 * c.before.before.before.args.j + 131 ≤ length c.loop.q) × (8 * length c.loop.q < 2 ^ 64)
-room c = let start = c.before.before.before in (omega (arith, c.loop.invariant.only.same, start.requires.0.room), omega (arith, c.loop.invariant.only.same, start.well_formed))
+room : (c : tie.At-loop-left invariant-loop decreases-loop) → (131 * c.args.j + 131 ≤ length c.loop-left.q) × (8 * length c.loop-left.q < 2 ^ 64)
+room c = (omega (arith, c.loop-left.invariant.only.same, c.requires.0.room), omega (arith, c.loop-left.invariant.only.same, c.well_formed))
 
 -- the clause there can be changed
-clause : (c : tie.After-lowest-var invariant-loop decreases-loop)
-    → let g = c.before.before.before.before.before.args in
-    (64 * g.j + c.lowest-var.result < g.m) × Changeable g.d (has (literals g.d.sign (clause_at g.t.now (64 * g.j + c.lowest-var.result))) g.v) (count_at c.before.before.loop.q g.j c.lowest-var.result)
+clause : (c : tie.After-lowest_var-b invariant-loop decreases-loop)
+    → let g = c.args in
+    (64 * g.j + c.lowest_var-b.result < g.m) × Changeable g.d (has (literals g.d.sign (clause_at g.t.now (64 * g.j + c.lowest_var-b.result))) g.v) (count_at c.loop-left.q g.j c.lowest_var-b.result)
 clause c =
-    let at = c.before.before in
-    let start = at.before.before.before in
-    rw c.lowest-var.ensures (changeable (some_left c.before) at.loop.invariant start.requires.0 start.requires.1)
+    rw c.lowest_var-b.ensures (changeable (some_left c.before) c.loop-left.invariant c.requires.0 c.requires.1)
 
-mul_at : tie.Need-overflow-mul-at invariant-loop decreases-loop
+mul_at : tie.Need-overflow_mul-at invariant-loop decreases-loop
 mul_at c = record { fits = omega (arith, room c.before.before) }
 
-cast-at : tie.Need-overflow-cast-at invariant-loop decreases-loop
+cast-at : tie.Need-overflow_cast-at invariant-loop decreases-loop
 cast-at c = omega (arith, place c)
 
-add_at : tie.Need-overflow-add-at invariant-loop decreases-loop
+add_at : tie.Need-overflow_add-at invariant-loop decreases-loop
 add_at c = record { fits = omega (arith, place c, room c.before.before) }
 
-mul-literals-at : tie.Need-overflow-mul-literals-at invariant-loop decreases-loop
+mul-literals-at : tie.Need-overflow_mul-j invariant-loop decreases-loop
 mul-literals-at c = record { fits = omega (arith, room c.before.before) }
 
-cast-literals-at : tie.Need-overflow-cast-literals-at invariant-loop decreases-loop
+cast-literals-at : tie.Need-overflow_cast-b invariant-loop decreases-loop
 cast-literals-at c = omega (arith, place c)
 
-add-literals-at : tie.Need-overflow-add-literals-at invariant-loop decreases-loop
+add-literals-at : tie.Need-overflow_add-j invariant-loop decreases-loop
 add-literals-at c = record { fits = omega (arith, place c, room c.before.before) }
 
-literals-at-requires : tie.Need-literals-at-requires invariant-loop decreases-loop
-literals-at-requires c κs = omega (arith, (clause c).0, c.before.before.before.before.before.requires.0.table)
+literals-at-requires : tie.Need-literals_at-lits-requires invariant-loop decreases-loop
+literals-at-requires c κs = omega (arith, (clause c).0, c.requires.0.table)
 
-mul-change : tie.Need-overflow-mul-change invariant-loop decreases-loop
+mul-change : tie.Need-offset_bounds-q-at invariant-loop decreases-loop
 mul-change c = record { fits = omega (arith, place c.before, room c.before.before.before) }
 
-slice-read-change : tie.Need-slice-read-change invariant-loop decreases-loop
+slice-read-change : tie.Need-bounds-q-at invariant-loop decreases-loop
 slice-read-change c = omega (arith, place c.before.before, room c.before.before.before.before)
 
-change-requires : tie.Need-change-requires invariant-loop decreases-loop
+change-requires : tie.Need-change-x-requires invariant-loop decreases-loop
 change-requires c κs =
-    let low = c.before.before in
-    (low.before.before.before.before.before.requires.0.below, rw c.before.literals-at.ensures (clause low).1)
+    (c.requires.0.below, rw c.literals_at-lits.ensures (clause c.before.before).1)
 
-mul-q : tie.Need-overflow-mul-q invariant-loop decreases-loop
+mul-q : tie.Need-offset_bounds-q-at-in-loop-left invariant-loop decreases-loop
 mul-q c = mul-change c.before.before
 
-slice-write-q : tie.Need-slice-write-q invariant-loop decreases-loop
+slice-write-q : tie.Need-bounds-q-at-in-loop-left invariant-loop decreases-loop
 slice-write-q c = slice-read-change c.before
 
-is-unsatisfied-requires : tie.Need-is-unsatisfied-requires invariant-loop decreases-loop
+is-unsatisfied-requires : tie.Need-is_unsatisfied-requires invariant-loop decreases-loop
 is-unsatisfied-requires c κs = search rules
 
-mark-requires : tie.Need-mark-requires invariant-loop decreases-loop
+mark-requires : tie.Need-mark-open-requires invariant-loop decreases-loop
 mark-requires c κs = place c.before.before.before.before
 
-rest-of-requires : tie.Need-rest-of-requires invariant-loop decreases-loop
-rest-of-requires c κs = omega (arith, c.before.before.before.before.before.before.loop-test.true)
+rest-of-requires : tie.Need-rest_of-left-requires invariant-loop decreases-loop
+rest-of-requires c κs = omega (arith, c.loop-left-test.true)
 
-loop-less : tie.Need-loop-smaller invariant-loop decreases-loop
+loop-less : tie.Need-loop-left-smaller invariant-loop decreases-loop
 loop-less c =
-    let in_turn = c.before.before.before.before.before.before.before in
-    omega (arith, c.rest_of.ensures, rest_lt in_turn.before.loop.left (some_left in_turn))
+    omega (arith, c.rest_of-left.ensures, rest_lt c.loop-left.left (some_left c.before.before.before.before.before.before.before))
 
-loop-again : tie.Need-loop-preserved invariant-loop decreases-loop
+loop-again : tie.Need-loop-left-preserved invariant-loop decreases-loop
 loop-again c =
-    let tested = c.before.before in
-    let changed = tested.before in
-    let read = changed.before.before in
-    let low = read.before in
-    let at = low.before.before in
-    rw (c.rest_of.ensures, c.before.mark.ensures, tested.is-unsatisfied.ensures, low.lowest-var.ensures)
-    (one_more (some_left low.before) at.loop.invariant (room at).0 _ (rw (read.literals-at.ensures, low.lowest-var.ensures) at changed.change.ensures))
+    rw (c.rest_of-left.ensures, c.mark-open.ensures, c.is_unsatisfied.ensures, c.lowest_var-b.ensures)
+    (one_more (some_left c.before.before.before.before.before.before.before) c.loop-left.invariant (room c.before.before.before.before.before.before.before.before).0 _ (rw (c.literals_at-lits.ensures, c.lowest_var-b.ensures) c c.change-x.ensures))
 
-same_length : tie.Need-same-length invariant-loop decreases-loop
-same_length c = c.before.loop.invariant.only.same
+same_length : tie.Need-shape_of-q invariant-loop decreases-loop
+same_length c = c.loop-left.invariant.only.same
 
 returns : tie.Need-returns invariant-loop decreases-loop
 returns c =
-    let w = c.before.loop.invariant in
+    let w = c.loop-left.invariant in
     record {
       only = w.only;
       rows = w.rows;
-      counts = λ b h. w.counts b h ∙ rw (c.loop-test.false, has_zero b, and-true) refl;
-      unkept = λ b h. w.unkept b h ∙ rw (c.loop-test.false, has_zero b, and-true) refl;
+      counts = λ b h. w.counts b h ∙ rw (c.loop-left-test.false, has_zero b, and-true) refl;
+      unkept = λ b h. w.unkept b h ∙ rw (c.loop-left-test.false, has_zero b, and-true) refl;
     }
 
-pub shift-spec : {M : Type 1} → statement M
-shift-spec =
+pub shift_spec : {M : Type 1} → statement M
+shift_spec =
     tie.close
     (tie.spec
     invariant-loop

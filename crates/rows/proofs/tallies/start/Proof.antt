@@ -10,45 +10,43 @@ use Rattle.rows.specs.Tally.{Tallied}
 use Rattle.rows.proofs.tallies.start.Statement.{statement}
 use Rattle.rows.proofs.tallies.start.Tie as tie
 
-abbrev invariant-loop : tie.invariant-loop
+abbrev invariant-loop : tie.invariant-loop-i
 invariant-loop t q₀ m none i₀ q i = (i ≤ m) × (length q ≡ length q₀) × Tallied t q i no_decisions 0
 
-abbrev decreases-loop : tie.decreases-loop
+abbrev decreases-loop : tie.decreases-loop-i
 decreases-loop t q₀ m none i₀ q i = m - i
 
-loop-holds : tie.Need-loop-init invariant-loop decreases-loop
+loop-holds : tie.Need-loop-i-init invariant-loop decreases-loop
 loop-holds c = (omega arith, refl, record { room = omega arith; block = λ j below. clash (omega arith) })
 
-clause-at-requires : tie.Need-clause-at-requires invariant-loop decreases-loop
-clause-at-requires c κs = omega (arith, c.before.loop-test.true, c.before.before.before.before.before.requires.0)
+clause-at-requires : tie.Need-clause_at-requires invariant-loop decreases-loop
+clause-at-requires c κs = omega (arith, c.loop-i-test.true, c.requires.0)
 
 put-requires : tie.Need-put-requires invariant-loop decreases-loop
-put-requires c κs = omega (arith, c.before.before.loop-test.true, c.before.before.before.loop.invariant.1, c.before.before.before.before.before.before.requires.1)
+put-requires c κs = omega (arith, c.loop-i-test.true, c.loop-i.invariant.1, c.requires.1)
 
-add-i : tie.Need-overflow-add-i invariant-loop decreases-loop
+add-i : tie.Need-overflow_add-i invariant-loop decreases-loop
 add-i c = omega arith
 
-loop-less : tie.Need-loop-smaller invariant-loop decreases-loop
-loop-less c = omega (arith, c.before.before.before.before.before.loop-test.true)
+loop-less : tie.Need-loop-i-smaller invariant-loop decreases-loop
+loop-less c = omega (arith, c.loop-i-test.true)
 
-loop-again : tie.Need-loop-preserved invariant-loop decreases-loop
+loop-again : tie.Need-loop-i-preserved invariant-loop decreases-loop
 loop-again c =
-    let put = c.before.before in
-    let turn = put.before.before.before in
-    let at = turn.before.loop in (
-      omega (arith, turn.loop-test.true),
-      put.put.auto.0 ∙ at.invariant.1,
-      put.put.ensures _ put.before.clause-at.ensures at.invariant.2,
+    let at = c.loop-i in (
+      omega (arith, c.loop-i-test.true),
+      c.put.auto.q ∙ at.invariant.1,
+      c.put.ensures _ c.clause_at.ensures at.invariant.2,
     )
 
-same_length : tie.Need-same-length invariant-loop decreases-loop
-same_length c = c.before.loop.invariant.1
+same_length : tie.Need-shape_of-q invariant-loop decreases-loop
+same_length c = c.loop-i.invariant.1
 
 returns : tie.Need-returns invariant-loop decreases-loop
 returns c =
-    let x = c.before.before.before.before.args in
-    let at = c.before.loop in
-    subst (λ (n : ℕ). Tallied x.t.now at.q n no_decisions 0) (omega (arith, c.loop-test.false)) at.invariant.2
+    let x = c.args in
+    let at = c.loop-i in
+    subst (λ (n : ℕ). Tallied x.t.now at.q n no_decisions 0) (omega (arith, c.loop-i-test.false)) at.invariant.2
 
 pub start_spec : {M : Type 1} → statement M
 start_spec =

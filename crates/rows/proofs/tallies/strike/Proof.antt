@@ -15,108 +15,100 @@ use Rattle.rows.proofs.Strikes.{Restruck, strikes, Apart, apart_more}
 use Rattle.rows.proofs.tallies.strike.Statement.{statement}
 use Rattle.rows.proofs.tallies.strike.Tie as tie
 
-abbrev invariant-loop : tie.invariant-loop
+abbrev invariant-loop : tie.invariant-loop-j
 invariant-loop q₀ m w u gone₀ j₀ q gone j = (64 * j < m + 64) × Walked (Restruck (λ k. bit_or k w) q₀ m) q₀ q j × (gone ≡ 0 → Apart q₀ u (64 * j))
 
-abbrev decreases-loop : tie.decreases-loop
+abbrev decreases-loop : tie.decreases-loop-j
 decreases-loop q₀ m w u gone₀ j₀ q gone j = m + 64 - 64 * j
 
-lowest-var-requires : tie.Need-lowest-var-requires invariant-loop decreases-loop
+lowest-var-requires : tie.Need-lowest_var-requires invariant-loop decreases-loop
 lowest-var-requires c κs = search rules
 
 -- the variable of w is one of the 64
-small : (c : tie.After-lowest-var invariant-loop decreases-loop) → c.lowest-var.result < 64
-small c = variable_below c.lowest-var.ensures c.before.before.requires.1
+small : (c : tie.After-lowest_var invariant-loop decreases-loop) → c.lowest_var.result < 64
+small c = variable_below c.lowest_var.ensures c.requires.1
 
 -- and w is its word
-word : (c : tie.After-lowest-var invariant-loop decreases-loop) → c.before.before.args.w ≡ 2 ^ c.lowest-var.result
+word : (c : tie.After-lowest_var invariant-loop decreases-loop) → c.args.w ≡ 2 ^ c.lowest_var.result
 word c =
-    let x = c.before.before.requires.1 in
-    x.word ∙ ap (λ (v : ℕ). 2 ^ v) (sym (number_is c.lowest-var.ensures x x.word))
+    let x = c.requires.1 in
+    x.word ∙ ap (λ (v : ℕ). 2 ^ v) (sym (number_is c.lowest_var.ensures x x.word))
 
-cast-u : tie.Need-overflow-cast-u invariant-loop decreases-loop
+cast-u : tie.Need-overflow_cast-u invariant-loop decreases-loop
 cast-u c = omega (arith, small c)
 
-add-u : tie.Need-overflow-add-u invariant-loop decreases-loop
+add-u : tie.Need-overflow_add-u invariant-loop decreases-loop
 add-u c = omega (arith, small c)
 
-loop-holds : tie.Need-loop-init invariant-loop decreases-loop
+loop-holds : tie.Need-loop-j-init invariant-loop decreases-loop
 loop-holds c = (omega arith, begins _, λ e. below_none _)
 
-mul-loop : tie.Need-overflow-mul-loop invariant-loop decreases-loop
+mul-loop : tie.Need-overflow_mul-j invariant-loop decreases-loop
 mul-loop c = omega arith
 
 -- there is room for block j
-room : (c : tie.In-loop invariant-loop decreases-loop) → 131 * c.before.loop.j + 131 ≤ length c.before.loop.q
-room c = omega (arith, c.loop-test.true, c.before.loop.invariant.1.same, c.before.before.before.before.requires.0)
+room : (c : tie.In-loop-j invariant-loop decreases-loop) → 131 * c.loop-j.j + 131 ≤ length c.loop-j.q
+room c = omega (arith, c.loop-j-test.true, c.loop-j.invariant.1.same, c.requires.0)
 
-row-requires : tie.Need-row-requires invariant-loop decreases-loop
-row-requires c κs = (room c.before, omega (arith, small c.before.before.before))
+row-requires : tie.Need-row-named-requires invariant-loop decreases-loop
+row-requires c κs = (room c, omega (arith, small c.before.before))
 
-row-requires-2 : tie.Need-row-requires-2 invariant-loop decreases-loop
-row-requires-2 c κs = (room c.before.before.before, omega arith)
+row-requires-2 : tie.Need-row-requires invariant-loop decreases-loop
+row-requires-2 c κs = (room c.before, omega arith)
 
-row-requires-3 : tie.Need-row-requires-3 invariant-loop decreases-loop
-row-requires-3 c κs = (room c.before.before.before.before.before.before, omega arith)
+row-requires-3 : tie.Need-row-requires-in-loop-j invariant-loop decreases-loop
+row-requires-3 c κs = (room c.before.before.before, omega arith)
 
-row-requires-4 : tie.Need-row-requires-4 invariant-loop decreases-loop
-row-requires-4 c κs = (room c.before.before.before.before.before.before.before.before, omega arith)
+row-requires-4 : tie.Need-row-requires-in-loop-j-2 invariant-loop decreases-loop
+row-requires-4 c κs = (room c.before.before.before.before, omega arith)
 
-put-rows-requires : tie.Need-put-rows-requires invariant-loop decreases-loop
-put-rows-requires c κs = room c.before.before.before.before.before.before.before.before.before
+put-rows-requires : tie.Need-put_rows-requires invariant-loop decreases-loop
+put-rows-requires c κs = room c.before.before.before.before.before
 
-add-j : tie.Need-overflow-add-j invariant-loop decreases-loop
+add-j : tie.Need-overflow_add-j invariant-loop decreases-loop
 add-j c = omega arith
 
-loop-less : tie.Need-loop-smaller invariant-loop decreases-loop
-loop-less c = omega (arith, c.before.before.before.before.before.before.before.before.before.before.before.before.loop-test.true)
+loop-less : tie.Need-loop-j-smaller invariant-loop decreases-loop
+loop-less c = omega (arith, c.loop-j-test.true)
 
-loop-again : tie.Need-loop-preserved invariant-loop decreases-loop
+loop-again : tie.Need-loop-j-preserved invariant-loop decreases-loop
 loop-again c =
-    let put = c.before.before in
-    let marked = put.before in
-    let unkept = marked.before.before in
-    let playing = unkept.before.before.before in
-    let named = playing.before.before in
-    let turn = named.before.before in
-    let start = turn.before.before in
-    let walk = turn.before.loop.invariant.1 in (
+    let walk = c.loop-j.invariant.1 in (
       omega arith,
       strikes
           _
           _
-          (word start)
-          (small start)
+          (word c.before.before.before.before.before.before.before.before.before.before)
+          (small c.before.before.before.before.before.before.before.before.before.before)
           walk
-          (rw (unkept.row3.ensures, marked.row4.ensures, named.row.ensures) at put.put-rows.ensures),
+          (rw (c.row-in-loop-j.ensures, c.row-in-loop-j-2.ensures, c.row-named.ensures) at c.put_rows.ensures),
       λ e.
           apart_more
           _
-          turn.before.loop.gone
-          (omega (arith, small start))
+          c.loop-j.gone
+          (omega (arith, small c.before.before.before.before.before.before.before.before.before.before))
           walk
-          turn.before.loop.invariant.2
-          (rw (playing.row2.ensures, named.row.ensures) at e),
+          c.loop-j.invariant.2
+          (rw (c.row.ensures, c.row-named.ensures) at e),
     )
 
-same_length : tie.Need-same-length invariant-loop decreases-loop
-same_length c = c.before.loop.invariant.1.same
+same_length : tie.Need-shape_of-q invariant-loop decreases-loop
+same_length c = c.loop-j.invariant.1.same
 
 returns : tie.Need-returns invariant-loop decreases-loop
 returns c =
-    let start = c.before.before in
-    let at = c.before.loop in (
-      λ t a k. ends t _ a a k _ at.invariant.1 c.loop-test.false (λ j below right x. right t a k x),
+    let at = c.loop-j in (
+      λ t a k. ends t _ a a k _ at.invariant.1 c.loop-j-test.false (λ j below right x. right t a k x),
       record {
         none =
             λ r v is i below.
-            rw (← number_is start.lowest-var.ensures start.before.before.requires.1 is)
-            (at.invariant.2 (eqb-true at.gone 0 (not-false (eqb at.gone 0) r)) i (omega (arith, c.loop-test.false)));
+            rw (← number_is c.lowest_var.ensures c.requires.1 is)
+            (at.invariant.2 (eqb-true at.gone 0 (not-false (eqb at.gone 0) r)) i (omega (arith, c.loop-j-test.false)));
       },
     )
 
-pub strike-spec : {M : Type 1} → statement M
-strike-spec =
+pub strike_spec : {M : Type 1} → statement M
+strike_spec =
     tie.close
     (tie.spec
     invariant-loop

@@ -11,7 +11,7 @@ use Rattle.rows.proofs.Walks.{number_is, variable_below}
 use Rattle.rows.proofs.tallies.turn.Statement.{statement}
 use Rattle.rows.proofs.tallies.turn.Tie as tie
 
-lowest-var-requires : tie.Need-lowest-var-requires
+lowest-var-requires : tie.Need-lowest_var-requires
 lowest-var-requires c κs = search rules
 
 turning-requires : tie.Need-turning-requires
@@ -19,30 +19,28 @@ turning-requires c κs = search rules
 
 -- how the turn changes the counts, of a decision on a variable that was undecided
 steps : (c : tie.After-turning) (v : ℕ) (a : Assignment)
-    → let g = c.before.before.before.before.before.args in
-    g.w ≡ 2 ^ v → Free v a → Steps g.t.now g.m c.before.lowest-var.result c.turning.result (decide a g.w g.b) (decide a g.w (not g.b))
+    → let g = c.args in
+    g.w ≡ 2 ^ v → Free v a → Steps g.t.now g.m c.lowest_var.result c.turning.result (decide a g.w g.b) (decide a g.w (not g.b))
 steps c v a is free =
-    let start = c.before.before.before.before.before in
-    turning start.args.t.now start.args.m start.requires.proper is (number_is c.before.lowest-var.ensures start.requires.variable is) free start.args.b c.turning.ensures
+    turning c.args.t.now c.args.m c.requires.proper is (number_is c.lowest_var.ensures c.requires.variable is) free c.args.b c.turning.ensures
 
 change-requires : tie.Need-change-requires
 change-requires c κs =
-    let known = c.before.before.before.before in
-    let pre = known.before.requires in (
+    let pre = c.requires in (
       pre.tallied.room,
       shiftable
           pre.table
-          (λ i. (known.shared-slice-known.given i).fits)
-          (variable_below c.before.lowest-var.ensures pre.variable)
+          (λ i. (c.shared_slice_known-1.given i).fits)
+          (variable_below c.lowest_var.ensures pre.variable)
           pre.tallied
           (steps c pre.variable.var pre.decisions pre.variable.word pre.free),
     )
 
-same_length : tie.Need-same-length
+same_length : tie.Need-shape_of-q
 same_length c = search rules
 
 returns : tie.Need-returns
-returns c v a k is free = let made = c.before.before in made.change.ensures _ _ k (leads_by (steps made.before v a is free))
+returns c v a k is free = c.change.ensures _ _ k (leads_by (steps c.before.before.before v a is free))
 
 pub turn_spec : {M : Type 1} → statement M
 turn_spec = tie.close (tie.spec lowest-var-requires turning-requires change-requires same_length returns)

@@ -9,14 +9,14 @@ use Rattle.rows.proofs.tallies.unstrike.Tie as tie
 restrike-requires : tie.Need-restrike-requires
 restrike-requires c κs = search rules
 
-same_length : tie.Need-same-length
+same_length : tie.Need-shape_of-q
 same_length c = search rules
 
-returns : tie.Need-returns
-returns c t a = c.before.before.restrike.ensures t a c.before.before.before.before.before.before.args.k
+returns : tie.Need-returns-then-k-other
+returns c t a = c.restrike.ensures t a c.args.k
 
-returns-2 : tie.Need-returns-2
-returns-2 c t a = let x = c.before.before.args in subst (λ (k : ℕ). Tallied t x.q.now x.m a k) c.if1.false
+returns-2 : tie.Need-returns-else-k-other
+returns-2 c t a = let x = c.args in subst (λ (k : ℕ). Tallied t x.q.now x.m a k) c.if-k-other.false
 
-pub unstrike-spec : {M : Type 1} → statement M
-unstrike-spec = tie.close (tie.spec restrike-requires same_length returns returns-2)
+pub unstrike_spec : {M : Type 1} → statement M
+unstrike_spec = tie.close (tie.spec restrike-requires same_length returns returns-2)

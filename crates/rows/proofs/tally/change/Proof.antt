@@ -11,48 +11,48 @@ use borrow.Author.Rules.{rules}
 use Rattle.rows.proofs.tally.change.Statement.{statement}
 use Rattle.rows.proofs.tally.change.Tie as tie
 
-add-result : tie.Need-overflow-add-result
+add-result : tie.Need-overflow_add-result
 add-result c = search rules
 
-bit-of-requires : tie.Need-bit-of-requires
+bit-of-requires : tie.Need-bit_of-requires
 bit-of-requires c κs = search rules
 
-cast-result : tie.Need-overflow-cast-result
+cast-result : tie.Need-overflow_cast-result
 cast-result c = search rules
 
-shl-result : tie.Need-overflow-shl-result
+shl-result : tie.Need-overflow_shl-result
 shl-result c = search rules
 
-module _ (c : tie.After-bit-of) where
+module _ (c : tie.After-bit_of) where
   -- whether it has the literal, and by how much the digit is shifted
   abbrev has-literal : Bool
-  has-literal = has c.before.before.args.lits c.before.before.args.v
+  has-literal = has c.args.lits c.args.v
 
   abbrev places : ℕ
-  places = c.before.before.args.d.shift
+  places = c.args.d.shift
 
   -- what is added for the literal
-  added : (c.bit-of.result * 2 ^ places) % 2 ^ 64 ≡ masked has-literal (2 ^ places)
-  added = ap (λ (x : ℕ). (x * 2 ^ places) % 2 ^ 64) c.bit-of.ensures ∙ digit_shifted has-literal places (omega (arith, c.before.before.requires.1.shift))
+  added : (c.bit_of.result * 2 ^ places) % 2 ^ 64 ≡ masked has-literal (2 ^ places)
+  added = ap (λ (x : ℕ). (x * 2 ^ places) % 2 ^ 64) c.bit_of.ensures ∙ digit_shifted has-literal places (omega (arith, c.requires.1.shift))
 
   -- is a small number
   few : masked has-literal (2 ^ places) ≤ 4
   few = go has-literal
     where
       go : (p : Bool) → masked p (2 ^ places) ≤ 4
-      go true = pow_mono c.before.before.requires.1.shift
+      go true = pow_mono c.requires.1.shift
       go false = omega arith
 
-add-result-2 : tie.Need-overflow-add-result-2
+add-result-2 : tie.Need-overflow_add-result-2
 add-result-2 c = record { fits = omega (arith, added c.before, few c.before) }
 
-sub-result : tie.Need-overflow-sub-result
+sub-result : tie.Need-overflow_sub-result
 sub-result c = omega (arith, added c.before.before)
 
 returns : tie.Need-returns
 returns c = omega (arith, added c.before.before)
 
-pub change-spec : {M : Type 1} → statement M
-change-spec =
+pub change_spec : {M : Type 1} → statement M
+change_spec =
     tie.close
     (tie.spec add-result bit-of-requires cast-result shl-result add-result-2 sub-result returns)

@@ -22,5 +22,5 @@ returns : tie.Need-returns
 unfolding tally_of
 returns c a d counted = nothing (undecided_in a d) (ones (keepers a d)) c.args.x counted ∙ sym (by_tally.broken a 0 d)
 
-pub is-falsified-spec : {M : Type 1} → statement M
-is-falsified-spec = tie.close (tie.spec returns)
+pub is_falsified_spec : {M : Type 1} → statement M
+is_falsified_spec = tie.close (tie.spec returns)

@@ -9,10 +9,10 @@ use borrow.Author.Rules.{rules}
 use Rattle.rows.proofs.tally.mark.Statement.{statement}
 use Rattle.rows.proofs.tally.mark.Tie as tie
 
-cast-result : tie.Need-overflow-cast-result
+cast-result : tie.Need-overflow_cast-result
 cast-result c = search rules
 
-shl-result : tie.Need-overflow-shl-result
+shl-result : tie.Need-overflow_shl-result
 shl-result c = search rules
 
 returns : tie.Need-returns

@@ -1,0 +1,235 @@
+#!/usr/bin/env python3
+"""Brings the proofs that walk the code, crates/NAME/proofs/F/Proof.antt, to the names that today's Rattle gives a function's goals, places and steps.
+
+usage: tools/mend_walks.py NAME..
+
+It asks 'rt check --generated DIR --old-names' for each name with the one before, so the crates below NAME have to be proved. It rewrites the files in place.
+A line that begins 'look:' names what it did not find.
+"""
+import json
+import os
+import re
+import subprocess
+import sys
+import tempfile
+
+WORD = r"[^\s(){}\[\],;.«»]"
+
+
+def norm(name):
+    return name.replace("_", "-")
+
+
+def text_of(path):
+    with open(path, encoding="utf-8") as f:
+        return f.read()
+
+
+def names_of(crate):
+    folder = tempfile.mkdtemp(prefix="names-")
+    said = subprocess.run(["rt", "check", "--generated", folder, "--old-names"], cwd=f"crates/{crate}", capture_output=True, text=True)
+    path = os.path.join(folder, "names.json")
+    if not os.path.isfile(path):
+        print("\n".join(l for l in said.stdout.splitlines() + said.stderr.splitlines() if "rt: note" not in l)[-3000:])
+        raise SystemExit(f"no names for {crate}")
+    return json.loads(text_of(path))
+
+
+PREFIXES = ["overflow-", "nonzero-", "bounds-"]
+BEGIN = r"(?<![^\s(){}\[\],;])"
+
+
+class Names:
+    def __init__(self, lts):
+        self.needs, self.places, self.steps, self.asked, self.above = {}, {}, {}, {}, {}
+        self.params = {}
+        for l in lts:
+            renamed = {p[0]: n for p, n in zip(l["places"], l["places_by_name"])}
+            for (old, new), (_, at) in zip(l["needs"], l["asked_at"]):
+                self.needs.setdefault(norm(old), new)
+                self.asked[new] = at
+            for place, new in zip(l["places"], l["places_by_name"]):
+                self.places.setdefault(norm(place[0]), new)
+                self.above[new] = renamed.get(place[1])
+                old_step, new_step = place[2]
+                if old_step:
+                    self.steps.setdefault(norm(old_step), set()).add(new_step)
+                if place[3]:
+                    self.params[new_step] = l["params"].get(place[3], [])
+        self.loops = {norm(l[0][0]): l[0][1] for it in lts for l in it["loops"]}
+        self.new_needs = {norm(n): n for l in lts for _, n in l["needs"]}
+        self.new_places = {norm(n): n for n in self.above}
+
+    def need(self, token):
+        t = norm(token)
+        if t in self.needs:
+            return self.needs[t]
+        for p in PREFIXES:
+            if t.startswith(p) and t[len(p):] in self.needs:
+                return self.needs[t[len(p):]]
+        t2 = re.sub(r"^(overflow|nonzero)-([a-z]+)-", r"\2-", t)
+        if t2 in self.needs:
+            return self.needs[t2]
+        return self.new_needs.get(t)
+
+    def place(self, token):
+        return self.places.get(norm(token)) or self.new_places.get(norm(token))
+
+    def depth(self, at, to):
+        n = 0
+        while at is not None:
+            if at == to:
+                return n
+            at, n = self.above.get(at), n + 1
+        return None
+
+
+def blocks(text):
+    """The text cut before each line that begins a declaration at its left edge."""
+    out, at = [], []
+    for line in text.split("\n"):
+        if re.match(r"(--|pub |abbrev |unfoldable |record |data |module |use |[^\s])", line) and at and not (at[-1].startswith("--")):
+            if not re.match(r"(unfolding |\)|\]|\}|where)", line) and not (at and re.match(r"^(pub )?(\S+) :", at[0]) and False):
+                out.append(at)
+                at = []
+        at.append(line)
+    out.append(at)
+    return ["\n".join(b) for b in out]
+
+
+def joined(parts):
+    """Blocks with a declaration's signature and clauses together, and its place."""
+    out = []
+    for b in parts:
+        first = next((l for l in b.split("\n") if not l.startswith("--") and l.strip()), "")
+        name = re.match(rf"(?:pub |abbrev |unfoldable )*({WORD}+)", first)
+        if out and name and out[-1][0] == name[1] and not first.startswith(("use ", "module ", "record ", "data ")):
+            out[-1][1] += "\n" + b
+        else:
+            out.append([name[1] if name else "", b])
+    return [b for _, b in out]
+
+
+def mended(path, text, names, spec):
+    said = []
+
+    def tie(m):
+        token = m[1]
+        if token.startswith("Need-"):
+            new = names.need(token[5:])
+            if new is None:
+                said.append(f"look: {path}: no goal for {token}")
+                return m[0]
+            return "tie.Need-" + new
+        for kind in ("invariant-", "decreases-"):
+            if token.startswith(kind) and norm(token[len(kind):]) in names.loops:
+                return f"tie.{kind}{names.loops[norm(token[len(kind):])]}"
+        new = names.place(token)
+        return "tie." + new if new else m[0]
+
+    text = re.sub(rf"\btie\.((?:Need|After|In|At|Then|Else|Start|Arm|Case|Join|Loop|Past|Before|Of|Not|Default|Last|Came|invariant|decreases){WORD}*)", tie, text)
+    text = re.sub(r"\.type-inv\b", ".type_inv", text)
+    text = re.sub(r"(\.(?:if\d+|[\w-]*-test|if-[\w-]+))\.taken\b", r"\1.true", text)
+    text = re.sub(r"(\.(?:if\d+|[\w-]*-test|if-[\w-]+))\.left\b", r"\1.false", text)
+    helpers = {}
+    for m in re.finditer(rf"^ *(?:pub |abbrev )*({WORD}+) : tie\.Need-({WORD}+)", text, re.M):
+        helpers[m[1]] = names.asked.get(m[2])
+    for m in re.finditer(rf"^ *(?:pub |abbrev )*({WORD}+) :(?: \{{[^}}]*\}} →)* \({WORD}+ : tie\.({WORD}+)", text, re.M):
+        helpers[m[1]] = m[2]
+    parts = joined(blocks(text))
+    out = []
+    for b in parts:
+        m = re.search(rf"^ *(?:pub |abbrev )*({WORD}+) : tie\.Need-({WORD}+)", b, re.M)
+        place = names.asked.get(m[2]) if m else None
+        m = re.search(rf"\(({WORD}+) : tie\.({WORD}+)", b)
+        var = "c"
+        if m and place is None:
+            var, place = m[1], m[2]
+        roots = {var: var, "c": "c"}
+        grown = True
+        while grown:
+            grown = False
+            for m in re.finditer(rf"\blet ({WORD}+)(?: : [^=]*?)? = ({WORD}+)((?:\.before)*) in\b", b):
+                if m[2] in roots and m[1] not in roots:
+                    roots[m[1]] = roots[m[2]]
+                    grown = True
+        # what is bound to a place goes: every field of a place that is before stands in the later one too
+        def bound(m):
+            if m[2] not in roots or m[3] not in roots:
+                return m[0]
+            return "" if m[5].endswith("\n") and m[1] else m[1]
+
+        b = re.sub(rf"([ \t]*)\blet ({WORD}+)(?: : [^=]*?)? = ({WORD}+)((?:\.before)*) in\b( ?\n?)", bound, b)
+        for alias, to in roots.items():
+            if alias != to:
+                b = re.sub(rf"{BEGIN}{re.escape(alias)}(?=[.\s(){{}}\[\],;])(?! [=:→])", to, b)
+        b = re.sub(r"(?:\.before)+(?=\.(?!before\b)[^\s(){}\[\],;.0-9])", "", b)
+
+        def step(m):
+            head, token = m[1], m[2]
+            news = names.steps.get(norm(token)) or names.steps.get(re.sub("-lem$", "", norm(token)))
+            if not news:
+                return m[0]
+            if len(news) > 1:
+                said.append(f"look: {path}: {token} is one of {sorted(news)}")
+                return m[0]
+            return f"{head}.{next(iter(news))}"
+
+        root = "|".join(sorted(map(re.escape, {var, "c", "w", "e", "f"}), key=len, reverse=True))
+        b = re.sub(rf"{BEGIN}({root}|\({WORD}+ {WORD}+\))\.({WORD}+)", step, b)
+
+        def param(m):
+            ones = m[3].count(".1")
+            listed = names.params.get(m[1], [])
+            if ones < len(listed):
+                return f".{m[1]}.{m[2]}.{listed[ones]}"
+            said.append(f"look: {path}: {m[0]}")
+            return m[0]
+
+        b = re.sub(rf"\.({WORD}+)\.(new|auto|kept|last)((?:\.1)*)\.0\b", param, b)
+
+        def call(m):
+            to = helpers.get(m[1])
+            if not to or place is None or m[2] != var:
+                return m[0]
+            n = names.depth(place, to)
+            if n is None:
+                said.append(f"look: {path}: {m[0]} at {place}, which is not after {to}")
+                return m[0]
+            return f"{m[1]} {m[2]}" + ".before" * n
+
+        b = re.sub(rf"{BEGIN}({WORD}+) ({WORD}+)((?:\.before)*)(?=[\s(){{}}\[\],;]|$|\.(?!before))(?! =)(?! κs =)", lambda m: call(m) if m[1] in helpers else m[0], b)
+        out.append(b)
+    text = "\n".join(out)
+    text = re.sub(rf"^(pub )?{WORD}+[-_]spec( : \{{M : Type 1\}} → statement)", rf"pub {spec}_spec\2", text, flags=re.M)
+    text = re.sub(rf"^{WORD}+[-_]spec =(\s+tie\.close)", rf"{spec}_spec =\1", text, flags=re.M)
+    return text, said
+
+
+def main(argv):
+    for crate in argv:
+        names = names_of(crate)
+        top = f"crates/{crate}/proofs"
+        for folder, dirs, files in os.walk(top):
+            dirs.sort()
+            if "Proof.antt" not in files:
+                continue
+            path = os.path.join(folder, "Proof.antt")
+            module = os.path.relpath(folder, top).replace("/", ".")
+            key = f"Rattle-{crate}-proofs.{module}."
+            lts = [v for k, v in names.items() if k.startswith(key) and k.endswith("Lts")]
+            if not lts:
+                print(f"look: {path}: no names under {key}")
+                continue
+            text = text_of(path)
+            new, said = mended(path, text, Names(lts), folder.split("/")[-1])
+            for line in dict.fromkeys(said):
+                print(line)
+            if new != text:
+                with open(path, "w", encoding="utf-8") as f:
+                    f.write(new)
+        subprocess.run(["rt", "fmt"], cwd=f"crates/{crate}", capture_output=True)
+
+
+if __name__ == "__main__":
+    main(sys.argv[1:])
