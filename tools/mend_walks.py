@@ -17,7 +17,7 @@ WORD = r"[^\s(){}\[\],;.«»]"
 
 
 def norm(name):
-    return name.replace("_", "-")
+    return name.replace("_", "-").lower()
 
 
 def text_of(path):
@@ -56,6 +56,12 @@ class Names:
                     self.steps.setdefault(norm(old_step), set()).add(new_step)
                 if place[3]:
                     self.params[new_step] = l["params"].get(place[3], [])
+        self.arms = {}
+        for l in lts:
+            for arm in l["arms"]:
+                for field, old, path in (arm[2] if arm else []):
+                    if path:
+                        self.arms.setdefault((norm(old), tuple(path)), set()).add(f"{arm[0]}.{field}")
         self.loops = {norm(l[0][0]): l[0][1] for it in lts for l in it["loops"]}
         self.new_needs = {norm(n): n for l in lts for _, n in l["needs"]}
         self.new_places = {norm(n): n for n in self.above}
@@ -136,6 +142,12 @@ def mended(path, text, names, spec):
         helpers[m[1]] = names.asked.get(m[2])
     for m in re.finditer(rf"^ *(?:pub |abbrev )*({WORD}+) :(?: \{{[^}}]*\}} →)* \({WORD}+ : tie\.({WORD}+)", text, re.M):
         helpers[m[1]] = m[2]
+    declared = set(re.findall(rf"^(?:abbrev |pub )*({WORD}+) :", text, re.M))
+    for m in re.finditer(rf"^(?:abbrev |pub )*({WORD}+) : tie\.({WORD}+)((?: {WORD}+)*) → tie\.({WORD}+)", text, re.M):
+        helpers[m[1]] = m[2]
+        n = names.depth(m[2], m[4])
+        if n is not None:
+            text = re.sub(rf"^{re.escape(m[1])} c = c(?:\.before)+$", f"{m[1]} c = c" + ".before" * n, text, flags=re.M)
     parts = joined(blocks(text))
     out = []
     for b in parts:
@@ -162,8 +174,18 @@ def mended(path, text, names, spec):
         b = re.sub(rf"([ \t]*)\blet ({WORD}+)(?: : [^=]*?)? = ({WORD}+)((?:\.before)*) in\b( ?\n?)", bound, b)
         for alias, to in roots.items():
             if alias != to:
-                b = re.sub(rf"{BEGIN}{re.escape(alias)}(?=[.\s(){{}}\[\],;])(?! [=:→])", to, b)
+                after = r"(?=\.)" if alias in helpers or alias in declared else r"(?=[.)\],;]|$)" if alias == "at" else r"(?=[.\s(){}\[\],;]|$)(?! [=:→])"
+                b = re.sub(rf"{BEGIN}{re.escape(alias)}{after}", to, b, flags=re.M)
         b = re.sub(r"(?:\.before)+(?=\.(?!before\b)[^\s(){}\[\],;.0-9])", "", b)
+
+        def arm(m):
+            head, token, path = m[1], norm(m[2]), m[3].strip(".").split(".")
+            for n in range(len(path), 0, -1):
+                news = names.arms.get((token, tuple(path[:n])))
+                if news and len(news) == 1:
+                    return ".".join([head, next(iter(news)), *path[n:]])
+            said.append(f"look: {path_of}: {m[0]}")
+            return m[0]
 
         def step(m):
             head, token = m[1], m[2]
@@ -175,6 +197,8 @@ def mended(path, text, names, spec):
                 return m[0]
             return f"{head}.{next(iter(news))}"
 
+        path_of = path
+        b = re.sub(rf"{BEGIN}({WORD}+|\({WORD}+ {WORD}+\))\.({WORD}+)((?:\.given)(?:\.[0-9])+)", arm, b)
         root = "|".join(sorted(map(re.escape, {var, "c", "w", "e", "f"}), key=len, reverse=True))
         b = re.sub(rf"{BEGIN}({root}|\({WORD}+ {WORD}+\))\.({WORD}+)", step, b)
 

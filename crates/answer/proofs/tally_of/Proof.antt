@@ -24,7 +24,7 @@ returns-2 : tie.Need-returns-in-Cannot
 returns-2 c = search rules
 
 returns-3 : tie.Need-returns-in-Refused
-returns-3 c = sym (ap tally_in c.enum_told-1.given.1)
+returns-3 c = sym (ap tally_in c.in-Refused.is)
 
 returns-4 : tie.Need-returns-in-Stopped
 returns-4 c = search rules

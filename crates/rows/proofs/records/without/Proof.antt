@@ -2,7 +2,6 @@
 -- with j at most i, and from i on the list is as it was. A D-sequent that is kept is put at j, which is not beyond i, so nothing that is still to be read
 -- is lost. The measure is how many D-sequents are left. Assumes nothing.
 use mathlib.Core.Path.{◌≡◌, refl, sym, ap, ◌∙◌}
-use mathlib.Core.Logic.{⊎_elim}
 use mathlib.Core.Bool.{true, false, not}
 use mathlib.Core.List.{List, [], ◌∷◌, ◌++◌}
 use Prim.Native.Nat.{ℕ, ◌+◌, ◌-◌, ◌≤◌}
@@ -16,6 +15,7 @@ use Rattle.rows.specs.Rows.{sequent_words, sequent_at, sequents, put_sequent}
 use Rattle.rows.proofs.Lists.{filter_keep, filter_drop}
 use Rattle.rows.proofs.Tables.{sequents_next, put_length, put_other, put_at_end}
 use Rattle.rows.proofs.records.without.Statement.{statement}
+use Rattle.rows.proofs.records.without.Lts.{then-not-meets, else-not-meets}
 use Rattle.rows.proofs.records.without.Tie as tie
 
 -- of the first i D-sequents of rs₀ those that do not name v are the first j of rs, and from i on the two are the same
@@ -93,17 +93,17 @@ loop-less c = omega arith
 loop-again : tie.Need-loop-i-preserved invariant-loop decreases-loop
 loop-again c = (
   omega arith,
-  ⊎_elim
-      (λ w.
-      rw (w.5 ∙ w.2.ensures, w.6)
-      (keep _ _ _ _ _ _ c.loop-i.invariant.1 c.sequent_at-d.ensures
-      (sym c.meets.ensures ∙ not-true _ w.0.taken)
-      (omega arith)))
-      (λ w.
-      rw (w.1, w.2)
-      (leave _ _ _ _ _ _ c.loop-i.invariant.1 c.sequent_at-d.ensures
-      (sym c.meets.ensures ∙ not-false _ w.0.left)))
-      c.if-not-meets.branch,
+  elim c.if-not-meets.branch [
+    | then-not-meets w ↦
+        rw (w.rs-is ∙ w.put.ensures, w.j-is)
+        (keep _ _ _ _ _ _ c.loop-i.invariant.1 c.sequent_at-d.ensures
+        (sym c.meets.ensures ∙ w.if-not-meets.true)
+        (omega arith))
+    | else-not-meets w ↦
+        rw (w.rs-is, w.j-is)
+        (leave _ _ _ _ _ _ c.loop-i.invariant.1 c.sequent_at-d.ensures
+        (sym c.meets.ensures ∙ w.if-not-meets.false))
+  ],
 )
 
 same_length : tie.Need-shape_of-rs invariant-loop decreases-loop

@@ -21,6 +21,7 @@ use Rattle.rows.specs.Tally.{Tallied}
 use Rattle.rows.proofs.Lists.{NoneBelow, find_at, find_none}
 use Rattle.rows.proofs.Reading.{falsified_is, falsified_out, walk_begins, walk_goes}
 use Rattle.rows.proofs.table.cover.Statement.{statement}
+use Rattle.rows.proofs.table.cover.Lts.{then-is_falsified+else-covers, else-is_falsified}
 use Rattle.rows.proofs.table.cover.Tie as tie
 
 -- a clause that is not falsified does not cover one that is
@@ -80,10 +81,10 @@ loop-again c = (
   λ a k apart broken tallied.
       let g = c.args in
       walk_goes _ (λ i h e. whole a _ _ broken (falsified_out tallied apart i h e)) (c.loop-at.invariant.1 a k apart broken tallied)
-      (⊎_elim
-      (λ w. ap (λ (d : Clause). covers d (clause_of g.c)) (sym w.1.ensures) ∙ sym w.2.ensures ∙ w.3.left)
-      (λ w. whole a _ _ broken (falsified_is tallied _ c.loop-at-test.true c.count.ensures c.is_falsified.ensures ∙ w.left))
-      c.if-is_falsified.branch)
+      (elim c.if-is_falsified.branch [
+        | then-is_falsified+else-covers w ↦ ap (λ (d : Clause). covers d (clause_of g.c)) (sym w.clause_at-d.ensures) ∙ sym w.covers.ensures ∙ w.if-covers.false
+        | else-is_falsified w ↦ whole a _ _ broken (falsified_is tallied _ c.loop-at-test.true c.count.ensures c.is_falsified.ensures ∙ w.if-is_falsified.false)
+      ])
       c.next-at.ensures.1,
 )
 

@@ -19,6 +19,7 @@ use Rattle.rows.specs.Tally.{Tallied}
 use Rattle.rows.proofs.Lists.{NoneBelow, find_at, find_none}
 use Rattle.rows.proofs.Reading.{falsified_is, falsified_out, walk_begins, walk_goes}
 use Rattle.rows.proofs.table.falsified_naming.Statement.{statement}
+use Rattle.rows.proofs.table.falsified_naming.Lts.{then-is_falsified+else-names, else-is_falsified}
 use Rattle.rows.proofs.table.falsified_naming.Tie as tie
 
 -- a clause that does not name v fails the two tests
@@ -90,10 +91,10 @@ loop-again c = (
   λ a k apart tallied.
       let v = c.args.v in
       walk_goes _ (λ i h e. whole v a _ (falsified_out tallied apart i h e)) (c.loop-at.invariant.1 a k apart tallied)
-      (⊎_elim
-      (λ w. unnamed v a _ (ap (names v) (sym w.1.ensures) ∙ sym w.2.ensures ∙ w.3.left))
-      (λ w. whole v a _ (falsified_is tallied _ c.loop-at-test.true c.count.ensures c.is_falsified.ensures ∙ w.left))
-      c.if-is_falsified.branch)
+      (elim c.if-is_falsified.branch [
+        | then-is_falsified+else-names w ↦ unnamed v a _ (ap (names v) (sym w.clause_at-c.ensures) ∙ sym w.names.ensures ∙ w.if-names.false)
+        | else-is_falsified w ↦ whole v a _ (falsified_is tallied _ c.loop-at-test.true c.count.ensures c.is_falsified.ensures ∙ w.if-is_falsified.false)
+      ])
       c.next-at.ensures.1,
 )
 

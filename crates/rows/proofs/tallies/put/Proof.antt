@@ -80,16 +80,16 @@ put-rows-requires c κs = room-then c.before.before.before.before.before.before.
 
 -- the clause had entered the rows before the last store
 abbrev entered : tie.After-put_rows → tie.After-enter
-entered c = c.before.before.before.before.before.before.before.before.before.before.before.before
+entered c = c.before.before.before.before.before.before.before.before.before.before
 
 -- all the stores
 stored : (c : tie.After-put_rows)
-    → let x = (c (c c)).args in Added x.q.now c.put_rows.new.q x.i (clause_of x.c) (assignment_of x.a) x.k
+    → let x = (opened (entered c)).args in Added x.q.now c.put_rows.new.q x.i (clause_of x.c) (assignment_of x.a) x.k
 stored c =
     added
     c.requires
     c.open_block.ensures
-    (rw (c.vars.ensures, c.word_of.ensures, c.Counts-of.ensures) at c.enter.ensures)
+    (rw (c.vars.ensures, c.word_of.ensures, c.counts_of-x.ensures) at c.enter.ensures)
     (rw (
       c.row-2.ensures,
       c.mark-2.ensures,
@@ -97,7 +97,7 @@ stored c =
       c.row.ensures,
       c.mark.ensures,
       c.is_unsatisfied.ensures,
-      c.Counts-of.ensures,
+      c.counts_of-x.ensures,
     )
     at c.put_rows.ensures)
 

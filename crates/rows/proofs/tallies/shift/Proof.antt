@@ -206,7 +206,7 @@ mul-q : tie.Need-offset_bounds-q-at-in-loop-left invariant-loop decreases-loop
 mul-q c = mul-change c.before.before
 
 slice-write-q : tie.Need-bounds-q-at-in-loop-left invariant-loop decreases-loop
-slice-write-q c = slice-read-change c.before
+slice-write-q c = omega (arith, place c.before.before.before, room c.before.before.before.before.before)
 
 is-unsatisfied-requires : tie.Need-is_unsatisfied-requires invariant-loop decreases-loop
 is-unsatisfied-requires c κs = search rules
@@ -224,7 +224,7 @@ loop-less c =
 loop-again : tie.Need-loop-left-preserved invariant-loop decreases-loop
 loop-again c =
     rw (c.rest_of-left.ensures, c.mark-open.ensures, c.is_unsatisfied.ensures, c.lowest_var-b.ensures)
-    (one_more (some_left c.before.before.before.before.before.before.before) c.loop-left.invariant (room c.before.before.before.before.before.before.before.before).0 _ (rw (c.literals_at-lits.ensures, c.lowest_var-b.ensures) c c.change-x.ensures))
+    (one_more (some_left c.before.before.before.before.before.before.before) c.loop-left.invariant (room c.before.before.before.before.before.before.before.before).0 _ (rw (c.literals_at-lits.ensures, c.lowest_var-b.ensures) at c.change-x.ensures))
 
 same_length : tie.Need-shape_of-q invariant-loop decreases-loop
 same_length c = c.loop-left.invariant.only.same
