@@ -16,6 +16,12 @@ import tempfile
 WORD = r"[^\s(){}\[\],;.«»]"
 
 
+RESPELLED = {}
+if os.path.isfile("tools/respelled.tsv"):
+    with open("tools/respelled.tsv", encoding="utf-8") as f:
+        RESPELLED = {new: old for old, new in (l.split("\t") for l in f.read().splitlines())}
+
+
 def norm(name):
     return name.replace("_", "-").lower()
 
@@ -56,6 +62,17 @@ class Names:
                     self.steps.setdefault(norm(old_step), set()).add(new_step)
                 if place[3]:
                     self.params[new_step] = l["params"].get(place[3], [])
+        # An arm's places before its last one: a later place is reached from what stood before the arm, and the last one has its parts.
+        self.last = {}
+        for l in lts:
+            for arm, new in zip(l["arms"], l["places_by_name"]):
+                if arm:
+                    final = arm[0][0].upper() + arm[0][1:]
+                    if new != final and final in l["places_by_name"]:
+                        self.last[new] = final
+        for new, final in self.last.items():
+            if self.above.get(new) not in self.last:
+                self.above[final] = self.above[new]
         self.arms = {}
         for l in lts:
             for arm in l["arms"]:
@@ -131,6 +148,7 @@ def mended(path, text, names, spec):
             if token.startswith(kind) and norm(token[len(kind):]) in names.loops:
                 return f"tie.{kind}{names.loops[norm(token[len(kind):])]}"
         new = names.place(token)
+        new = names.last.get(new, new)
         return "tie." + new if new else m[0]
 
     text = re.sub(rf"\btie\.((?:Need|After|In|At|Then|Else|Start|Arm|Case|Join|Loop|Past|Before|Of|Not|Default|Last|Came|invariant|decreases){WORD}*)", tie, text)
@@ -148,6 +166,12 @@ def mended(path, text, names, spec):
         n = names.depth(m[2], m[4])
         if n is not None:
             text = re.sub(rf"^{re.escape(m[1])} c = c(?:\.before)+$", f"{m[1]} c = c" + ".before" * n, text, flags=re.M)
+    for m in re.finditer(rf"^module _ \(({WORD}+) : tie\.({WORD}+)[^\n]*where\n((?:(?:  .*)?\n)*)", text, re.M):
+        for inner in re.finditer(rf"^  (?:pub |abbrev )*({WORD}+) :", m[3], re.M):
+            helpers[inner[1]] = m[2]
+            at = re.search(rf": tie\.({WORD}+)", m[3][inner.start():].split("\n")[0])
+            if at and names.depth(m[2], at[1]) is not None:
+                text = re.sub(rf"^  {re.escape(inner[1])} = {m[1]}(?:\.before)+$", f"  {inner[1]} = {m[1]}" + ".before" * names.depth(m[2], at[1]), text, flags=re.M)
     parts = joined(blocks(text))
     out = []
     for b in parts:
@@ -182,6 +206,8 @@ def mended(path, text, names, spec):
             head, token, path = m[1], norm(m[2]), m[3].strip(".").split(".")
             for n in range(len(path), 0, -1):
                 news = names.arms.get((token, tuple(path[:n])))
+                if news and place in names.last and any(n.startswith(names.last[place][0].lower() + names.last[place][1:] + ".") for n in news):
+                    return m[0]
                 if news and len(news) == 1:
                     return ".".join([head, next(iter(news)), *path[n:]])
             said.append(f"look: {path_of}: {m[0]}")
@@ -189,7 +215,7 @@ def mended(path, text, names, spec):
 
         def step(m):
             head, token = m[1], m[2]
-            news = names.steps.get(norm(token)) or names.steps.get(re.sub("-lem$", "", norm(token)))
+            news = names.steps.get(norm(token)) or names.steps.get(re.sub("-lem$", "", norm(token))) or names.steps.get(norm(RESPELLED.get(token, "")))
             if not news:
                 return m[0]
             if len(news) > 1:
@@ -211,6 +237,23 @@ def mended(path, text, names, spec):
             return m[0]
 
         b = re.sub(rf"\.({WORD}+)\.(new|auto|kept|last)((?:\.1)*)\.0\b", param, b)
+
+        for m in re.finditer(rf"\blet ({WORD}+)(?: : [^=]*?)? = c\.({WORD}+) in\b", b):
+            if m[2] in names.params:
+                listed = names.params[m[2]]
+
+                def of_alias(k, listed=listed):
+                    ones = k[2].count(".1")
+                    return f"{k[1]}.{listed[ones]}" if ones < len(listed) else k[0]
+
+                b = re.sub(rf"({BEGIN}{re.escape(m[1])}\.(?:new|auto|kept|last))((?:\.1)*)\.0\b", of_alias, b)
+
+        def last(m):
+            listed = names.params.get(m[1], [])
+            return f".{m[1]}.{m[2]}.{listed[-1]}" if listed and m[3].count(".1") == len(listed) - 1 else m[0]
+
+        b = re.sub(rf"\.({WORD}+)\.(new|auto|kept|last)((?:\.1)+)(?![.0-9])", last, b)
+        b = re.sub(r"\(?\bnot-(?:true|false) _ (c\.if-not-[\w-]+\.(?:true|false))\b", lambda m: ("(" if m[0][0] == "(" else "") + m[1], b)
 
         def call(m):
             to = helpers.get(m[1])

@@ -9,7 +9,7 @@ minus-requires : tie.Need-minus-requires
 minus-requires c κs = search rules
 
 returns : tie.Need-returns
-returns c = kept_by_now (clause_of c.before.before.args.c) _ _ c.minus.result c.minus.ensures
+returns c = kept_by_now (clause_of c.args.c) _ _ c.minus.result c.minus.ensures
 
-pub is-kept-spec : {M : Type 1} → statement M
-is-kept-spec = tie.close (tie.spec minus-requires returns)
+pub is_kept_spec : {M : Type 1} → statement M
+is_kept_spec = tie.close (tie.spec minus-requires returns)

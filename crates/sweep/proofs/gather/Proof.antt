@@ -38,80 +38,73 @@ passed {t} {q} {a = a} {k} l {v} is var x i h out =
     (refuted (meets (literals l.sign c) l.var)
     (λ with-literal. both_ways (is_in q (naming v) i && is_in q (naming v) i) (and_both _ _ (there with-literal) (there with-literal)) out))
 
-abbrev invariant-loop : tie.invariant-loop
+abbrev invariant-loop : tie.invariant-loop-at
 invariant-loop t q m l a r row reasons₀ at₀ reasons at =
     Standing q m row row at × ((k : ℕ) → Tallied t q m (assignment_of a) k → Gathering t m (assignment_of a) k (literal_of l) r reasons at.number)
 
-abbrev decreases-loop : tie.decreases-loop
+abbrev decreases-loop : tie.decreases-loop-at
 decreases-loop t q m l a r row reasons₀ at₀ reasons at = m - at.number
 
-lowest-var-requires : tie.Need-lowest-var-requires invariant-loop decreases-loop
+lowest-var-requires : tie.Need-lowest_var-requires invariant-loop decreases-loop
 lowest-var-requires c κs = search rules
 
 -- the variable is one of the 64
-low : (c : tie.After-lowest-var invariant-loop decreases-loop) → c.lowest-var.result < 64
-low c = variable_below c.lowest-var.ensures c.before.before.before.requires.2
+low : (c : tie.After-lowest_var invariant-loop decreases-loop) → c.lowest_var.result < 64
+low c = variable_below c.lowest_var.ensures c.requires.2
 
-cast-row : tie.Need-overflow-cast-row invariant-loop decreases-loop
+cast-row : tie.Need-overflow_cast-row invariant-loop decreases-loop
 cast-row c = omega (arith, low c)
 
-add_row : tie.Need-overflow-add-row invariant-loop decreases-loop
+add_row : tie.Need-overflow_add-row invariant-loop decreases-loop
 add_row c = omega (arith, low c)
 
-first-requires : tie.Need-first-requires invariant-loop decreases-loop
+first-requires : tie.Need-first-at-requires invariant-loop decreases-loop
 first-requires c κs = (search rules, omega (arith, low c), omega (arith, low c))
 
-loop-holds : tie.Need-loop-init invariant-loop decreases-loop
+loop-holds : tie.Need-loop-at-init invariant-loop decreases-loop
 loop-holds c = (
-  c.first.ensures.0,
+  c.first-at.ensures.0,
   λ k x.
-      let start = c.before.before.before.before in
-      let to = c.first.ensures.1 in
+      let to = c.first-at.ensures.1 in
       gathering_skips _ _ _ k _ _ _ 0 _ to.after
-      (λ y l u h. passed (literal_of start.args.l) c.before.lowest-var.ensures start.requires.2 x y h (to.none y l u h))
+      (λ y l u h. passed (literal_of c.args.l) c.lowest_var.ensures c.requires.2 x y h (to.none y l u h))
       (gathering_begins _ _ _ k _ _),
 )
 
-is-in-requires : tie.Need-is-in-requires invariant-loop decreases-loop
+is-in-requires : tie.Need-is_in-struck-requires invariant-loop decreases-loop
 is-in-requires c κs = (omega arith, omega arith)
 
-clause-at-requires : tie.Need-clause-at-requires invariant-loop decreases-loop
+clause-at-requires : tie.Need-clause_at-requires invariant-loop decreases-loop
 clause-at-requires c κs = omega arith
 
-keeper-requires : tie.Need-keeper-requires invariant-loop decreases-loop
+keeper-requires : tie.Need-keeper-reasons-requires invariant-loop decreases-loop
 keeper-requires c κs = search rules
 
-next-requires : tie.Need-next-requires invariant-loop decreases-loop
+next-requires : tie.Need-next-at-requires invariant-loop decreases-loop
 next-requires c κs =
-    let turn = c.before.before.before.before.before in
-    let variable = low turn.before.before in
-    (search rules, omega (arith, variable), omega (arith, variable), search rules, turn.loop.invariant.0)
+    let variable = low c.before.before.before.before.before.before.before in
+    (search rules, omega (arith, variable), omega (arith, variable), search rules, c.loop-at.invariant.0)
 
-loop-less : tie.Need-loop-smaller invariant-loop decreases-loop
-loop-less c = omega (arith, c.next.ensures.1.after)
+loop-less : tie.Need-loop-at-smaller invariant-loop decreases-loop
+loop-less c = omega (arith, c.next-at.ensures.1.after)
 
-loop-again : tie.Need-loop-preserved invariant-loop decreases-loop
+loop-again : tie.Need-loop-at-preserved invariant-loop decreases-loop
 loop-again c =
-    let read = c.before.before in
-    let test = read.before.before in
-    let turn = test.before.before in
-    let first = turn.before in
-    let start = first.before.before.before.before in
-    let below = test.if1.true in
-    let to = c.next.ensures.1 in (
-      c.next.ensures.0,
+    let below = c.loop-at-test.true in
+    let to = c.next-at.ensures.1 in (
+      c.next-at.ensures.0,
       λ k x.
           gathering_skips _ _ _ k _ _ _ _ _ to.after
-          (λ y l u h. passed (literal_of start.args.l) first.before.lowest-var.ensures start.requires.2 x y h (to.none y l u h))
-          (gathering_turn _ _ _ k _ _ _ _ _ _ below (turn.loop.invariant.1 k x) read.clause-at.ensures
-          (c.before.keeper.ensures k (read.before.is-in.ensures ∙ struck_is x _ below ∙ ap (names k) (sym read.clause-at.ensures)))),
+          (λ y l u h. passed (literal_of c.args.l) c.lowest_var.ensures c.requires.2 x y h (to.none y l u h))
+          (gathering_turn _ _ _ k _ _ _ _ _ _ below (c.loop-at.invariant.1 k x) c.clause_at.ensures
+          (c.keeper-reasons.ensures k (c.is_in-struck.ensures ∙ struck_is x _ below ∙ ap (names k) (sym c.clause_at.ensures)))),
     )
 
 returns : tie.Need-returns invariant-loop decreases-loop
-returns c k x = gathering_ends _ _ _ k _ _ _ _ c.if1.false (c.before.before.loop.invariant.1 k x)
+returns c k x = gathering_ends _ _ _ k _ _ _ _ c.loop-at-test.false (c.loop-at.invariant.1 k x)
 
-pub gather-spec : {M : Type 1} → statement M
-gather-spec =
+pub gather_spec : {M : Type 1} → statement M
+gather_spec =
     tie.close
     (tie.spec
     invariant-loop

@@ -18,32 +18,30 @@ meets-requires c κs = search rules
 
 -- the first test is whether the clause has the literal
 has-literal : (c : tie.After-meets)
-    → let g = c.before.before.args in
+    → let g = c.args in
     c.meets.result ≡ meets (literals g.l.sign (clause_of g.c)) g.l.var
-has-literal c = c.meets.ensures ∙ ap (λ (x : ℕ). meets x c.before.before.args.l.var) c.before.literals.ensures
+has-literal c = c.meets.ensures ∙ ap (λ (x : ℕ). meets x c.args.l.var) c.literals.ensures
 
-returns : tie.Need-returns
-returns c k struck = sym (without_literal _ _ _ _ (sym (has-literal c.before) ∙ not-true _ c.if1.true))
+returns : tie.Need-returns-then-not-meets
+returns c k struck = sym (without_literal _ _ _ _ (sym (has-literal c.before) ∙ c.if-not-meets.true))
 
-returns-2 : tie.Need-returns-2
-returns-2 c k struck = sym (naming_redundant _ _ _ _ (sym struck ∙ c.if2.true))
+returns-2 : tie.Need-returns-then-struck
+returns-2 c k struck = sym (naming_redundant _ _ _ _ (sym struck ∙ c.if-struck.true))
 
 keepers-requires : tie.Need-keepers-requires
 keepers-requires c κs = search rules
 
-lowest-of-requires : tie.Need-lowest-of-requires
+lowest-of-requires : tie.Need-lowest_of-requires
 lowest-of-requires c κs = search rules
 
-returns-3 : tie.Need-returns-3
+returns-3 : tie.Need-returns
 returns-3 c k struck =
-    let other = c.before.before in
-    let literal = other.before in
-    c.lowest-of.ensures
-    ∙ ap lowest c.before.keepers.ensures
-    ∙ sym (adds_keeper _ _ _ _ (sym (has-literal literal.before) ∙ not-false _ literal.if1.false) (sym struck ∙ other.if2.false))
+    c.lowest_of.ensures
+    ∙ ap lowest c.keepers.ensures
+    ∙ sym (adds_keeper _ _ _ _ (sym (has-literal c.before.before.before.before) ∙ c.if-not-meets.false) (sym struck ∙ c.if-struck.false))
 
-pub keeper-spec : {M : Type 1} → statement M
-keeper-spec =
+pub keeper_spec : {M : Type 1} → statement M
+keeper_spec =
     tie.close
     (tie.spec
     literals-requires

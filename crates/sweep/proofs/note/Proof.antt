@@ -7,5 +7,5 @@ use Rattle.sweep.proofs.note.Tie as tie
 returns : tie.Need-returns
 returns c a k active = sym (adds_literals _ _ _ _ active)
 
-pub note-spec : {M : Type 1} → statement M
-note-spec = tie.close (tie.spec returns)
+pub note_spec : {M : Type 1} → statement M
+note_spec = tie.close (tie.spec returns)

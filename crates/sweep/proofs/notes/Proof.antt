@@ -32,60 +32,58 @@ passed {t} {q} {m} {a} {k} x few i h out = not-false (inactive a k (clause_at t 
     once true e = e
     once false e = refl
 
-abbrev invariant-loop : tie.invariant-loop
+abbrev invariant-loop : tie.invariant-loop-at
 invariant-loop t q m seen₀ at₀ seen at =
     Standing q m playing playing at × ((a : Assignment) (k : ℕ) → Tallied t q m a k → Noting t m a k (notes_of seen) at.number)
 
-abbrev decreases-loop : tie.decreases-loop
+abbrev decreases-loop : tie.decreases-loop-at
 decreases-loop t q m seen₀ at₀ seen at = m - at.number
 
-first-requires : tie.Need-first-requires invariant-loop decreases-loop
+first-requires : tie.Need-first-at-requires invariant-loop decreases-loop
 first-requires c κs = search rules
 
 -- fewer than 128 decisions satisfy a clause
-few : (c : tie.After-first invariant-loop decreases-loop) (a : Assignment) (i : ℕ) → ones (keepers a (clause_at c.before.before.before.args.t.now i)) < 128
-few c a i = few_at c.before.before.before.args.t.now (λ j. (c.before.before.shared-slice-known.given j).fits) a i
+few : (c : tie.After-first-at invariant-loop decreases-loop) (a : Assignment) (i : ℕ) → ones (keepers a (clause_at c.args.t.now i)) < 128
+few c a i = few_at c.args.t.now (λ j. (c.shared_slice_known-1.given j).fits) a i
 
-loop-holds : tie.Need-loop-init invariant-loop decreases-loop
+loop-holds : tie.Need-loop-at-init invariant-loop decreases-loop
 loop-holds c = (
-  c.first.ensures.0,
+  c.first-at.ensures.0,
   λ a k x.
-      let to = c.first.ensures.1 in
+      let to = c.first-at.ensures.1 in
       noting_skips _ _ a k _ 0 _ to.after (λ y l u h. passed x (few c a) y h (to.none y l u h)) (noting_begins _ _ a k),
 )
 
-clause-at-requires : tie.Need-clause-at-requires invariant-loop decreases-loop
+clause-at-requires : tie.Need-clause_at-requires invariant-loop decreases-loop
 clause-at-requires c κs = omega arith
 
-note-requires : tie.Need-note-requires invariant-loop decreases-loop
+note-requires : tie.Need-note-seen-requires invariant-loop decreases-loop
 note-requires c κs = search rules
 
-next-requires : tie.Need-next-requires invariant-loop decreases-loop
+next-requires : tie.Need-next-at-requires invariant-loop decreases-loop
 next-requires c κs = search rules
 
-loop-less : tie.Need-loop-smaller invariant-loop decreases-loop
-loop-less c = omega (arith, c.next.ensures.1.after)
+loop-less : tie.Need-loop-at-smaller invariant-loop decreases-loop
+loop-less c = omega (arith, c.next-at.ensures.1.after)
 
-loop-again : tie.Need-loop-preserved invariant-loop decreases-loop
+loop-again : tie.Need-loop-at-preserved invariant-loop decreases-loop
 loop-again c =
-    let read = c.before.before in
-    let turn = read.before.before.before in
-    let below = read.before.if1.true in
-    let to = c.next.ensures.1 in (
-      c.next.ensures.0,
+    let below = c.loop-at-test.true in
+    let to = c.next-at.ensures.1 in (
+      c.next-at.ensures.0,
       λ a k x.
-          let few-here = few turn.before a in
-          let active : inactive a k _ ≡ false = not-true _ (sym (playing_is x _ below (few-here _)) ∙ and_left _ _ (turn.loop.invariant.0.here below)) in
+          let few-here = few c.before.before.before.before.before.before a in
+          let active : inactive a k _ ≡ false = not-true _ (sym (playing_is x _ below (few-here _)) ∙ and_left _ _ (c.loop-at.invariant.0.here below)) in
           noting_skips _ _ a k _ _ _ to.after (λ y l u h. passed x few-here y h (to.none y l u h))
-          (noting_turn _ _ a k _ _ _ _ below (turn.loop.invariant.1 a k x) read.clause-at.ensures
-          (c.before.note.ensures a k (ap (inactive a k) read.clause-at.ensures ∙ active))),
+          (noting_turn _ _ a k _ _ _ _ below (c.loop-at.invariant.1 a k x) c.clause_at.ensures
+          (c.note-seen.ensures a k (ap (inactive a k) c.clause_at.ensures ∙ active))),
     )
 
 returns : tie.Need-returns invariant-loop decreases-loop
-returns c a k h = noting_ends _ _ a k _ _ c.if1.false (c.before.before.loop.invariant.1 a k h)
+returns c a k h = noting_ends _ _ a k _ _ c.loop-at-test.false (c.loop-at.invariant.1 a k h)
 
-pub notes-spec : {M : Type 1} → statement M
-notes-spec =
+pub notes_spec : {M : Type 1} → statement M
+notes_spec =
     tie.close
     (tie.spec
     invariant-loop

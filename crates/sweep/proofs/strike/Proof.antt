@@ -46,25 +46,24 @@ strike-requires c κs = search rules
 notes-requires : tie.Need-notes-requires
 notes-requires c κs = search rules
 
-same_length : tie.Need-same-length
+same_length : tie.Need-shape_of-q-then-strike
 same_length c = search rules
 
-returns : tie.Need-returns
-returns c a k x = let struck = c.before.before.before.before.before.strike.ensures.0 _ a k x in (struck, λ seen. c.notes.ensures a _ struck)
+returns : tie.Need-returns-then-strike
+returns c a k x = let struck = c.strike.ensures.0 _ a k x in (struck, λ seen. c.notes.ensures a _ struck)
 
-same-length-2 : tie.Need-same-length-2
+same-length-2 : tie.Need-shape_of-q
 same-length-2 c = search rules
 
-returns-2 : tie.Need-returns-2
+returns-2 : tie.Need-returns
 returns-2 c a k x =
-    let s = c.before.before.before.strike in
-    let start = c.before.before.before.before.before.before.before in (
+    let s = c.strike in (
       s.ensures.0 _ a k x,
       λ seen.
           seen
           ∙ sym (notes_still a k _ _ _
-          (unnamed x (few_at start.args.t.now (λ j. (c.before.before.before.before.before.before.shared-slice-known.given j).fits) a) start.requires.2 s.ensures.1 c.if1.false)),
+          (unnamed x (few_at c.args.t.now (λ j. (c.shared_slice_known-1.given j).fits) a) c.requires.2 s.ensures.1 c.if-strike.false)),
     )
 
-pub strike-spec : {M : Type 1} → statement M
-strike-spec = tie.close (tie.spec strike-requires notes-requires same_length returns same-length-2 returns-2)
+pub strike_spec : {M : Type 1} → statement M
+strike_spec = tie.close (tie.spec strike-requires notes-requires same_length returns same-length-2 returns-2)

@@ -13,7 +13,7 @@ use Rattle.rows.proofs.Walks.{tallied_at}
 use Rattle.sweep.proofs.strike_by.Statement.{statement}
 use Rattle.sweep.proofs.strike_by.Tie as tie
 
-gather-requires : tie.Need-gather-requires
+gather-requires : tie.Need-gather-on-requires
 gather-requires c κs = search rules
 
 strike-requires : tie.Need-strike-requires
@@ -22,29 +22,25 @@ strike-requires c κs = search rules
 append-requires : tie.Need-append-requires
 append-requires c κs = search rules
 
-same_length : tie.Need-same-length
+same_length : tie.Need-shape_of-q
 same_length c = search rules
 
-same-length-2 : tie.Need-same-length-2
+same-length-2 : tie.Need-shape_of-rs
 same-length-2 c = search rules
 
 returns : tie.Need-returns
 returns c =
-    let appended = c.before.before in
-    let struck = appended.before.before.before.before.before.before in
-    let gathered = struck.before.before in
-    let start = gathered.before.before.before.before.before in
-    let g = start.args in
+    let g = c.args in
     let s = state_of g.t.now g.rs.now g.s in
-    let set = ap (λ (d : DSequent). d.redundant) start.requires.last in
-    let tallied = subst⁻¹ (λ (k : ℕ). Tallied g.t.now g.q.now g.s.clauses (assignment_of g.a) k) set start.requires.tallied in
+    let set = ap (λ (d : DSequent). d.redundant) c.requires.last in
+    let tallied = subst⁻¹ (λ (k : ℕ). Tallied g.t.now g.q.now g.s.clauses (assignment_of g.a) k) set c.requires.tallied in
     let is =
-    appended.append.ensures g.t.now
-    ∙ ap₂ (λ (on k : ℕ). append (assignment_of g.a) on (bit_or k g.l.var) s) (gathered.gather.ensures g.d.redundant tallied) set in (
+    c.append.ensures g.t.now
+    ∙ ap₂ (λ (on k : ℕ). append (assignment_of g.a) on (bit_or k g.l.var) s) (c.gather-on.ensures g.d.redundant tallied) set in (
       is,
-      tallied_at appended.append.new.0 appended.append.result (assignment_of g.a) _ is refl (append_redundant (assignment_of g.a) _ _ s)
-          (struck.strike.ensures.0 g.t.now _ _ start.requires.tallied),
+      tallied_at c.append.new.rs c.append.result (assignment_of g.a) _ is refl (append_redundant (assignment_of g.a) _ _ s)
+          (c.strike.ensures.0 g.t.now _ _ c.requires.tallied),
     )
 
-pub strike-by-spec : {M : Type 1} → statement M
-strike-by-spec = tie.close (tie.spec gather-requires strike-requires append-requires same_length same-length-2 returns)
+pub strike_by_spec : {M : Type 1} → statement M
+strike_by_spec = tie.close (tie.spec gather-requires strike-requires append-requires same_length same-length-2 returns)

@@ -22,27 +22,25 @@ both t t₁ t₂ m r₁ r₂ o e₁ e₂ =
     e₂ ∙ ap (λ (l : List Clause). l ++ units_of false o.neg) e₁ ∙ append_assoc (clauses t m) (units_of true o.pos) (units_of false o.neg)
     ∙ ap (λ (l : List Clause). clauses t m ++ l) (sym (units_sides o))
 
-add-units-requires : tie.Need-add-units-requires
-add-units-requires c κs = omega (arith, length_units (assumptions_of c.before.before.args.o))
+add-units-requires : tie.Need-add_units-count-requires
+add-units-requires c κs = omega (arith, length_units (assumptions_of c.args.o))
 
-add-units-requires-2 : tie.Need-add-units-requires-2
+add-units-requires-2 : tie.Need-add_units-requires
 add-units-requires-2 c κs =
-    let wanted = c.before.before.before in
-    let start = c.before.before.before.before.before.before in
     omega (
       arith,
-      length_units (assumptions_of start.args.o),
-      more_clauses _ _ _ _ _ wanted.add-units.ensures,
-      wanted.add-units.auto.1.1.1.0,
+      length_units (assumptions_of c.args.o),
+      more_clauses _ _ _ _ _ c.add_units-count.ensures,
+      c.add_units-count.auto.t,
     )
 
-same_length : tie.Need-same-length
+same_length : tie.Need-shape_of-t
 same_length c = search rules
 
 returns : tie.Need-returns
 returns c =
-    both _ _ _ _ _ _ (assumptions_of c.before.before.before.before.before.before.before.before.before.args.o)
-    c.before.before.before.before.before.before.add-units.ensures c.before.before.add-units2.ensures
+    both _ _ _ _ _ _ (assumptions_of c.args.o)
+    c.add_units-count.ensures c.add_units.ensures
 
-pub assume-spec : {M : Type 1} → statement M
-assume-spec = tie.close (tie.spec add-units-requires add-units-requires-2 same_length returns)
+pub assume_spec : {M : Type 1} → statement M
+assume_spec = tie.close (tie.spec add-units-requires add-units-requires-2 same_length returns)

@@ -12,25 +12,25 @@ use Rattle.book.proofs.Accepted.{FromTable, table_book}
 use Rattle.book.proofs.Book.to_bytes.Statement.{statement}
 use Rattle.book.proofs.Book.to_bytes.Tie as tie
 
-from-words-requires : tie.Need-from-words-requires
+from-words-requires : tie.Need-from_words-requires
 from-words-requires c κs = search rules
 
-enum-known-number : tie.Need-enum-known-number
+enum-known-number : tie.Need-enum_known-number
 enum-known-number c = search rules
 
-enum-known-b : tie.Need-enum-known-b
+enum-known-b : tie.Need-enum_known-b
 enum-known-b c = search rules
 
 -- the table is a book
-module _ (c : tie.After-b) where
+module _ (c : tie.In-Book) where
   abbrev start : tie.Start
-  start = c.before.before.before.before.before
+  start = c.before.before.before.before
 
   abbrev b : Book
-  b = c.b.given.0.0
+  b = c.in-Book.b
 
   is-book : book b.vars (clauses start.args.t.now b.clauses) ≡ read_table start.args.self.vars start.args.self.clauses start.args.t.now
-  is-book = ap (λ x. reading_of x start.args.t.now) (sym c.b.given.1) ∙ c.before.before.from-words.ensures
+  is-book = ap (λ x. reading_of x start.args.t.now) (sym c.in-Book.is) ∙ c.from_words.ensures
 
   book-here : FromTable start.args.self.vars start.args.self.clauses start.args.t.now b.vars (clauses start.args.t.now b.clauses)
   book-here = table_book _ _ _ _ _ is-book
@@ -38,32 +38,30 @@ module _ (c : tie.After-b) where
   same_count : start.args.self.clauses ≡ b.clauses
   same_count = as_many _ _ _ book-here.clauses_are
 
-write-book-requires : tie.Need-write-book-requires
+write-book-requires : tie.Need-write_book-requires
 write-book-requires c κs =
-    let a = c.before.before in
-    let here = book-here a in (
+    let here = book-here c.before in (
       here.well_formed.vars_few,
-      omega (arith, here.well_formed.clauses_few, clauses_length (start a).args.t.now (b a).clauses),
-      omega (arith, here.length_is, same_count a),
+      omega (arith, here.well_formed.clauses_few, clauses_length (start c.before).args.t.now (b c.before).clauses),
+      omega (arith, here.length_is, same_count c.before),
     )
 
-returns : tie.Need-returns
+returns : tie.Need-returns-in-Refused
 unfolding written_of written_to
 returns c =
-    let start = c.before.before.before.before.before.before in
-    let r = ap (λ x. reading_of x start.args.t.now) (sym c.before.number.given.1) ∙ c.before.before.before.from-words.ensures in
+    let r = ap (λ x. reading_of x c.args.t.now) (sym c.in-Refused.is) ∙ c.from_words.ensures in
     (ap (written_of _) r, ap (written_to _) r)
 
-same_length : tie.Need-same-length
+same_length : tie.Need-shape_of-out
 same_length c = search rules
 
-returns-2 : tie.Need-returns-2
+returns-2 : tie.Need-returns-in-Book
 returns-2 c =
-    let same = is-book c.before.before.before.before.before in
-    (c.before.before.write-book.ensures.0 ∙ ap (written_of _) same, c.before.before.write-book.ensures.1 ∙ ap (written_to _) same)
+    let same = is-book c.before.before.before.before in
+    (c.write_book.ensures.0 ∙ ap (written_of _) same, c.write_book.ensures.1 ∙ ap (written_to _) same)
 
-pub to-bytes-spec : {M : Type 1} → statement M
-to-bytes-spec =
+pub to_bytes_spec : {M : Type 1} → statement M
+to_bytes_spec =
     tie.close
     (tie.spec
     from-words-requires

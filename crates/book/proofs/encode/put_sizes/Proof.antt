@@ -23,32 +23,32 @@ three out n m small long =
     (placed_cons out 0 n _ (omega arith) ∙ placed_cons _ 1 (m % 256) _ (simp length-set (omega arith))
     ∙ placed_cons _ 2 (m / 256 % 256) [] (simp length-set (omega arith)) ∙ placed_nil _ 3))
 
-cast-out : tie.Need-overflow-cast-out
+cast-out : tie.Need-overflow_cast-out
 cast-out c = search rules
 
-slice-write-out : tie.Need-slice-write-out
+slice-write-out : tie.Need-bounds-out-0
 slice-write-out c = search rules
 
-cast-out-2 : tie.Need-overflow-cast-out-2
+cast-out-2 : tie.Need-overflow_cast-out-2
 cast-out-2 c = search rules
 
-slice-write-out-2 : tie.Need-slice-write-out-2
+slice-write-out-2 : tie.Need-bounds-out-1
 slice-write-out-2 c = simp length-set (omega arith)
 
-cast-out-3 : tie.Need-overflow-cast-out-3
+cast-out-3 : tie.Need-overflow_cast-out-3
 cast-out-3 c = search rules
 
-slice-write-out-3 : tie.Need-slice-write-out-3
+slice-write-out-3 : tie.Need-bounds-out-2
 slice-write-out-3 c = search rules
 
-same_length : tie.Need-same-length
+same_length : tie.Need-shape_of-out
 same_length c = search rules
 
 returns : tie.Need-returns
 returns c = three _ _ _ (omega arith) (omega arith)
 
-pub put-sizes-spec : {M : Type 1} → statement M
-put-sizes-spec =
+pub put_sizes_spec : {M : Type 1} → statement M
+put_sizes_spec =
     tie.close
     (tie.spec
     cast-out

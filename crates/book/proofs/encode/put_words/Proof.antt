@@ -46,62 +46,57 @@ done : (out t : List ℕ) (at : ℕ) (sign : Bool) (m i : ℕ) → m ≤ i → p
 unfolding flat
 done out t at sign m i h = rw (from_end (clause_at t) i m h) (placed_nil out (at + 8 * i))
 
-abbrev invariant-loop : tie.invariant-loop
+abbrev invariant-loop : tie.invariant-loop-i
 invariant-loop t sign m at out₀ i₀ out i =
     (i ≤ m) × (length out ≡ length out₀)
     × (placed out (at + 8 * i) (left t sign m i) ≡ placed out₀ at (flat (map (literals sign) (clauses t m))))
 
-abbrev decreases-loop : tie.decreases-loop
+abbrev decreases-loop : tie.decreases-loop-i
 decreases-loop t sign m at out₀ i₀ out i = m - i
 
-loop-holds : tie.Need-loop-init invariant-loop decreases-loop
-loop-holds c = (omega arith, refl, begin _ _ _ c.before.before.args.sign _)
+loop-holds : tie.Need-loop-i-init invariant-loop decreases-loop
+loop-holds c = (omega arith, refl, begin _ _ _ c.args.sign _)
 
-clause-at-requires : tie.Need-clause-at-requires invariant-loop decreases-loop
+clause-at-requires : tie.Need-clause_at-requires invariant-loop decreases-loop
 clause-at-requires c κs = omega arith
 
-literals-requires : tie.Need-literals-requires invariant-loop decreases-loop
+literals-requires : tie.Need-literals-word-requires invariant-loop decreases-loop
 literals-requires c κs = search rules
 
-mul-put-word : tie.Need-overflow-mul-put-word invariant-loop decreases-loop
+mul-put-word : tie.Need-overflow_mul-i invariant-loop decreases-loop
 mul-put-word c = omega arith
 
-add-put-word : tie.Need-overflow-add-put-word invariant-loop decreases-loop
+add-put-word : tie.Need-overflow_add-at invariant-loop decreases-loop
 add-put-word c = omega arith
 
-put-word-requires : tie.Need-put-word-requires invariant-loop decreases-loop
+put-word-requires : tie.Need-put_word-requires invariant-loop decreases-loop
 put-word-requires c κs = omega arith
 
-add-i : tie.Need-overflow-add-i invariant-loop decreases-loop
+add-i : tie.Need-overflow_add-i invariant-loop decreases-loop
 add-i c = omega arith
 
-loop-less : tie.Need-loop-smaller invariant-loop decreases-loop
+loop-less : tie.Need-loop-i-smaller invariant-loop decreases-loop
 loop-less c = omega arith
 
-loop-again : tie.Need-loop-preserved invariant-loop decreases-loop
+loop-again : tie.Need-loop-i-preserved invariant-loop decreases-loop
 loop-again c =
-    let put = c.before.before in
-    let read = put.before.before.before in
-    let at = read.before.before in
-    let start = at.before.before.before in
-    let few : at.loop.i < start.args.clauses = omega arith in (
+    let few : c.loop-i.i < c.args.clauses = omega arith in (
       omega arith,
-      put.put_word.auto.1.1.0 ∙ at.loop.invariant.1,
-      turn _ _ start.args.t.now _ start.args.sign _ _ _ _ few (omega arith) read.clause-at.ensures put.before.before.literals.ensures
-          put.put_word.ensures
-          ∙ at.loop.invariant.2,
+      c.put_word.auto.out ∙ c.loop-i.invariant.1,
+      turn _ _ c.args.t.now _ c.args.sign _ _ _ _ few (omega arith) c.clause_at.ensures c.literals-word.ensures
+          c.put_word.ensures
+          ∙ c.loop-i.invariant.2,
     )
 
-same_length : tie.Need-same-length invariant-loop decreases-loop
-same_length c = c.before.loop.invariant.1
+same_length : tie.Need-shape_of-out invariant-loop decreases-loop
+same_length c = c.loop-i.invariant.1
 
 returns : tie.Need-returns invariant-loop decreases-loop
 returns c =
-    let start = c.before.before.before.before in
-    sym (done _ start.args.t.now _ start.args.sign _ c.before.loop.i c.loop-test.false) ∙ c.before.loop.invariant.2
+    sym (done _ c.args.t.now _ c.args.sign _ c.loop-i.i c.loop-i-test.false) ∙ c.loop-i.invariant.2
 
-pub put-words-spec : {M : Type 1} → statement M
-put-words-spec =
+pub put_words_spec : {M : Type 1} → statement M
+put_words_spec =
     tie.close
     (tie.spec
     invariant-loop

@@ -9,48 +9,45 @@ use Rattle.book.proofs.Encoding.{written_short, written_bytes}
 use Rattle.book.proofs.encode.write_book.Statement.{statement}
 use Rattle.book.proofs.encode.write_book.Tie as tie
 
-mul-size : tie.Need-overflow-mul-size
+mul-size : tie.Need-overflow_mul-size
 mul-size c = search rules
 
-add-size : tie.Need-overflow-add-size
+add-size : tie.Need-overflow_add-size
 add-size c = search rules
 
-returns : tie.Need-returns
+returns : tie.Need-returns-then-out-size
 returns c =
-    let start = c.before.before.before.before in
-    let short : length start.args.out.now < book_bytes start.args.b.clauses = omega arith in
-    let w = written_short _ _ _ _ (clauses_length start.args.t.now start.args.b.clauses) short in
+    let short : length c.args.out.now < book_bytes c.args.b.clauses = omega arith in
+    let w = written_short _ _ _ _ (clauses_length c.args.t.now c.args.b.clauses) short in
     (w.0, w.1)
 
-put-sizes-requires : tie.Need-put-sizes-requires
+put-sizes-requires : tie.Need-put_sizes-requires
 put-sizes-requires c κs = search rules
 
-put-words-requires : tie.Need-put-words-requires
+put-words-requires : tie.Need-put_words-requires
 put-words-requires c κs = search rules
 
-mul-put-words : tie.Need-overflow-mul-put-words
+mul-put-words : tie.Need-overflow_mul-b
 mul-put-words c = search rules
 
-add-put-words : tie.Need-overflow-add-put-words
+add-put-words : tie.Need-overflow_add-b
 add-put-words c = search rules
 
-put-words-requires-2 : tie.Need-put-words-requires-2
+put-words-requires-2 : tie.Need-put_words-requires-2
 put-words-requires-2 c κs = search rules
 
-same_length : tie.Need-same-length
+same_length : tie.Need-shape_of-out
 same_length c = search rules
 
-returns-2 : tie.Need-returns-2
+returns-2 : tie.Need-returns
 returns-2 c =
-    let sizes = c.before.before.before.before.before.before.before.before.before.before.before in
-    let start = sizes.before.before.before.before.before.before in
-    let w = written_bytes _ _ _ _ (clauses_length start.args.t.now start.args.b.clauses) _ _ _
-    sizes.before.before.if1.false sizes.put-sizes.ensures c.before.before.before.before.before.before.before.put-words.ensures c.before.before.put-words2.ensures
+    let w = written_bytes _ _ _ _ (clauses_length c.args.t.now c.args.b.clauses) _ _ _
+    c.if-out-size.false c.put_sizes.ensures c.put_words.ensures c.put_words-2.ensures
     in
     (w.0, w.1)
 
-pub write-book-spec : {M : Type 1} → statement M
-write-book-spec =
+pub write_book_spec : {M : Type 1} → statement M
+write_book_spec =
     tie.close
     (tie.spec
     mul-size

@@ -39,31 +39,31 @@ turn n m t i c few read inv =
     inv ∙ ap (λ (l : List Clause). first_row (rule_rows n l)) (from_step (clause_at t) i m few)
     ∙ ap (λ (d : Clause). first_row (rule_rows n (d ∷ from (clause_at t) (i + 1) (m - (i + 1))))) (sym read)
 
-abbrev invariant-loop : tie.invariant-loop
+abbrev invariant-loop : tie.invariant-loop-i
 invariant-loop b t i₀ i = (i ≤ b.clauses) × Left b.vars b.clauses t i
 
-abbrev decreases-loop : tie.decreases-loop
+abbrev decreases-loop : tie.decreases-loop-i
 decreases-loop b t i₀ i = b.clauses - i
 
-loop-holds : tie.Need-loop-init invariant-loop decreases-loop
+loop-holds : tie.Need-loop-i-init invariant-loop decreases-loop
 loop-holds c = (omega arith, begin _ _ _)
 
-clause-at-requires : tie.Need-clause-at-requires invariant-loop decreases-loop
+clause-at-requires : tie.Need-clause_at-c-requires invariant-loop decreases-loop
 clause-at-requires c κs = omega arith
 
-names-above-requires : tie.Need-names-above-requires invariant-loop decreases-loop
+names-above-requires : tie.Need-names_above-above-requires invariant-loop decreases-loop
 names-above-requires c κs = search rules
 
-meets-requires : tie.Need-meets-requires invariant-loop decreases-loop
+meets-requires : tie.Need-meets-both-requires invariant-loop decreases-loop
 meets-requires c κs = search rules
 
 -- a turn of the loop: the i-th clause was read, and tested
-module _ (c : tie.After-meets invariant-loop decreases-loop) where
+module _ (c : tie.After-meets-both invariant-loop decreases-loop) where
   abbrev start : tie.Start invariant-loop decreases-loop
   start = c.before.before.before.before.before.before.before
 
   abbrev i : ℕ
-  i = c.before.before.before.before.before.loop.i
+  i = c.loop-i.i
 
   abbrev n : ℕ
   n = start.args.b.vars
@@ -75,40 +75,38 @@ module _ (c : tie.After-meets invariant-loop decreases-loop) where
   table = start.args.t.now
 
   abbrev here : Clause
-  here = clause_of c.before.before.clause-at.result
+  here = clause_of c.clause_at-c.result
 
   rest : first_row (rule_rows n (clauses table m)) ≡ first_row (rule_rows n (here ∷ from (clause_at table) (i + 1) (m - (i + 1))))
-  rest = turn n m table i here (omega arith) c.before.before.clause-at.ensures c.before.before.before.before.before.loop.invariant.1
+  rest = turn n m table i here (omega arith) c.clause_at-c.ensures c.loop-i.invariant.1
 
-  above-is : c.before.names_above.result ≡ above n here.pos here.neg
-  above-is = c.before.names_above.ensures
+  above-is : c.names_above-above.result ≡ above n here.pos here.neg
+  above-is = c.names_above-above.ensures
 
-returns : tie.Need-returns invariant-loop decreases-loop
-returns c = refused_by _ _ _ _ (rest c.before ∙ rule_above _ _ _ (sym (above-is c.before) ∙ c.if2.true))
+returns : tie.Need-returns-then-above invariant-loop decreases-loop
+returns c = refused_by _ _ _ _ (rest c.before ∙ rule_above _ _ _ (sym (above-is c.before) ∙ c.if-above.true))
 
-returns-2 : tie.Need-returns-2 invariant-loop decreases-loop
+returns-2 : tie.Need-returns-then-both invariant-loop decreases-loop
 returns-2 c =
-    let tests = c.before.before in
-    refused_by _ _ _ _ (rest tests ∙ rule_both _ _ _ (sym (above-is tests) ∙ c.before.if2.false) (sym tests.meets.ensures ∙ c.if3.true))
+    refused_by _ _ _ _ (rest c.before.before ∙ rule_both _ _ _ (sym (above-is c.before.before) ∙ c.if-above.false) (sym c.meets-both.ensures ∙ c.if-both.true))
 
-add-i : tie.Need-overflow-add-i invariant-loop decreases-loop
+add-i : tie.Need-overflow_add-i invariant-loop decreases-loop
 add-i c = omega arith
 
-loop-less : tie.Need-loop-smaller invariant-loop decreases-loop
+loop-less : tie.Need-loop-i-smaller invariant-loop decreases-loop
 loop-less c = omega arith
 
-loop-again : tie.Need-loop-preserved invariant-loop decreases-loop
-loop-again c =
-    let tests = c.before.before in (
-      omega arith,
-      rest tests ∙ rule_passed _ _ _ (sym (above-is tests) ∙ c.before.if2.false) (sym tests.meets.ensures ∙ c.if3.false),
-    )
+loop-again : tie.Need-loop-i-preserved invariant-loop decreases-loop
+loop-again c = (
+  omega arith,
+  rest c.before.before ∙ rule_passed _ _ _ (sym (above-is c.before.before) ∙ c.if-above.false) (sym c.meets-both.ensures ∙ c.if-both.false),
+)
 
-returns-3 : tie.Need-returns-3 invariant-loop decreases-loop
-returns-3 c = book_by _ _ _ (done _ _ _ _ c.if1.false c.before.before.loop.invariant.1)
+returns-3 : tie.Need-returns invariant-loop decreases-loop
+returns-3 c = book_by _ _ _ (done _ _ _ _ c.loop-i-test.false c.loop-i.invariant.1)
 
-pub judge-rules-spec : {M : Type 1} → statement M
-judge-rules-spec =
+pub judge_rules_spec : {M : Type 1} → statement M
+judge_rules_spec =
     tie.close
     (tie.spec
     invariant-loop

@@ -26,7 +26,7 @@ above-least n x h = go (ltb 64 n) refl
         ap (λ k. is_zero (minus x (first_vars k))) (min-eq_right more) ∙ within_minus x (first_vars 64) (lt_within 64 x h)
         ∙ sym (within_minus x (first_vars n) (lt_within n x (lt_of_lt_of_le h (pow_mono more))))
 
-first-of-requires : tie.Need-first-of-requires
+first-of-requires : tie.Need-first_of-requires
 first-of-requires c κs = search rules
 
 minus-requires : tie.Need-minus-requires
@@ -35,10 +35,9 @@ minus-requires c κs = search rules
 returns : tie.Need-returns
 unfolding above
 returns c =
-    let start = c.before.before in
     ap not
-    (is_zero_test c.minus.result ∙ ap is_zero (c.minus.ensures ∙ ap (minus _) c.before.first_of.ensures)
-    ∙ above-least _ _ (or_lt 64 _ _ start.ranges.pos.fits start.ranges.neg.fits))
+    (is_zero_test c.minus.result ∙ ap is_zero (c.minus.ensures ∙ ap (minus _) c.first_of.ensures)
+    ∙ above-least _ _ (or_lt 64 _ _ c.ranges.pos.fits c.ranges.neg.fits))
 
-pub names-above-spec : {M : Type 1} → statement M
-names-above-spec = tie.close (tie.spec first-of-requires minus-requires returns)
+pub names_above_spec : {M : Type 1} → statement M
+names_above_spec = tie.close (tie.spec first-of-requires minus-requires returns)

@@ -33,64 +33,62 @@ done bytes t m i few all e =
     let same : m ≡ i = omega arith in
     ap (clauses t) same ∙ sym (append-nil (clauses t i)) ∙ ap (λ (l : List Clause). clauses t i ++ l) (sym (from_end bytes m i all)) ∙ e
 
-abbrev invariant-loop : tie.invariant-loop
+abbrev invariant-loop : tie.invariant-loop-i
 invariant-loop bytes m t₀ i₀ t i = (i ≤ m) × (length t ≡ length t₀) × (clauses t i ++ clauses_from bytes m i ≡ clauses_in m bytes)
 
-abbrev decreases-loop : tie.decreases-loop
+abbrev decreases-loop : tie.decreases-loop-i
 decreases-loop bytes m t₀ i₀ t i = m - i
 
-loop-holds : tie.Need-loop-init invariant-loop decreases-loop
+loop-holds : tie.Need-loop-i-init invariant-loop decreases-loop
 loop-holds c = (omega arith, refl, begin _ _ _)
 
-mul-word-at : tie.Need-overflow-mul-word-at invariant-loop decreases-loop
+mul-word-at : tie.Need-overflow_mul-i invariant-loop decreases-loop
 mul-word-at c = omega arith
 
-add-word-at : tie.Need-overflow-add-word-at invariant-loop decreases-loop
+add-word-at : tie.Need-overflow_add-i invariant-loop decreases-loop
 add-word-at c = omega arith
 
-word-at-requires : tie.Need-word-at-requires invariant-loop decreases-loop
+word-at-requires : tie.Need-word_at-requires invariant-loop decreases-loop
 word-at-requires c κs = omega arith
 
-add-word-at-2 : tie.Need-overflow-add-word-at-2 invariant-loop decreases-loop
+add-word-at-2 : tie.Need-overflow_add-clauses invariant-loop decreases-loop
 add-word-at-2 c = omega arith
 
-mul-word-at-2 : tie.Need-overflow-mul-word-at-2 invariant-loop decreases-loop
+mul-word-at-2 : tie.Need-overflow_mul-clauses invariant-loop decreases-loop
 mul-word-at-2 c = omega arith
 
-add-word-at-3 : tie.Need-overflow-add-word-at-3 invariant-loop decreases-loop
+add-word-at-3 : tie.Need-overflow_add-clauses-in-loop-i invariant-loop decreases-loop
 add-word-at-3 c = omega arith
 
-word-at-requires-2 : tie.Need-word-at-requires-2 invariant-loop decreases-loop
+word-at-requires-2 : tie.Need-word_at-requires-in-loop-i invariant-loop decreases-loop
 word-at-requires-2 c κs = omega arith
 
 put-requires : tie.Need-put-requires invariant-loop decreases-loop
 put-requires c κs = omega arith
 
-add-i : tie.Need-overflow-add-i invariant-loop decreases-loop
+add-i : tie.Need-overflow_add-i-in-loop-i invariant-loop decreases-loop
 add-i c = omega arith
 
-loop-less : tie.Need-loop-smaller invariant-loop decreases-loop
+loop-less : tie.Need-loop-i-smaller invariant-loop decreases-loop
 loop-less c = omega arith
 
-loop-again : tie.Need-loop-preserved invariant-loop decreases-loop
+loop-again : tie.Need-loop-i-preserved invariant-loop decreases-loop
 loop-again c =
-    let put = c.before.before in
-    let at = put.before.before.before.before.before in
-    let few : at.loop.i < at.before.before.before.args.clauses = omega arith in (
+    let few : c.loop-i.i < c.args.clauses = omega arith in (
       omega arith,
-      ap length put.put.ensures ∙ put_clause_length _ _ _ ∙ at.loop.invariant.1,
-      turn _ _ _ _ _ _ few (omega arith) put.before.before.before.word_at.ensures put.before.before.word-at2.ensures put.put.ensures
-          ∙ at.loop.invariant.2,
+      ap length c.put.ensures ∙ put_clause_length _ _ _ ∙ c.loop-i.invariant.1,
+      turn _ _ _ _ _ _ few (omega arith) c.word_at.ensures c.word_at-in-loop-i.ensures c.put.ensures
+          ∙ c.loop-i.invariant.2,
     )
 
-same_length : tie.Need-same-length invariant-loop decreases-loop
-same_length c = c.before.loop.invariant.1
+same_length : tie.Need-shape_of-t invariant-loop decreases-loop
+same_length c = c.loop-i.invariant.1
 
 returns : tie.Need-returns invariant-loop decreases-loop
-returns c = done _ _ _ c.before.loop.i c.before.loop.invariant.0 c.loop-test.false c.before.loop.invariant.2
+returns c = done _ _ _ c.loop-i.i c.loop-i.invariant.0 c.loop-i-test.false c.loop-i.invariant.2
 
-pub copy-clauses-spec : {M : Type 1} → statement M
-copy-clauses-spec =
+pub copy_clauses_spec : {M : Type 1} → statement M
+copy_clauses_spec =
     tie.close
     (tie.spec
     invariant-loop

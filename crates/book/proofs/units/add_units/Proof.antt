@@ -26,10 +26,10 @@ all t count b rest = clauses t count ++ units_of b rest
 length-all : (t : List ℕ) (count : ℕ) (b : Bool) (rest : ℕ) → length (all t count b rest) ≡ count + length (units_of b rest)
 length-all t count b rest = length-append (clauses t count) (units_of b rest) ∙ ap (λ k. k + length (units_of b rest)) (clauses_length t count)
 
-abbrev invariant-loop : tie.invariant-loop
+abbrev invariant-loop : tie.invariant-loop-rest
 invariant-loop b word m t₀ rest₀ count₀ t rest count = (length t ≡ length t₀) × (all t count b rest ≡ all t₀ m b word)
 
-abbrev decreases-loop : tie.decreases-loop
+abbrev decreases-loop : tie.decreases-loop-rest
 decreases-loop b word m t₀ rest₀ count₀ t rest count = length (units_of b rest)
 
 -- a turn: the clause for the lowest member is put after the last
@@ -39,74 +39,69 @@ turn : (t t' : List ℕ) (count : ℕ) (b : Bool) (rest rest' l : ℕ) (c : Clau
 turn t t' count b rest rest' l c fits step el ec er et =
     rw (et, put_next t count c (units_of b rest') fits, ec, er, el, step)
 
-loop-holds : tie.Need-loop-init invariant-loop decreases-loop
+loop-holds : tie.Need-loop-rest-init invariant-loop decreases-loop
 loop-holds c = (refl, refl)
 
-lowest-of-requires : tie.Need-lowest-of-requires invariant-loop decreases-loop
+lowest-of-requires : tie.Need-lowest_of-lowest-requires invariant-loop decreases-loop
 lowest-of-requires c κs = search rules
 
-unit-of-requires : tie.Need-unit-of-requires invariant-loop decreases-loop
+unit-of-requires : tie.Need-unit_of-requires invariant-loop decreases-loop
 unit-of-requires c κs = search rules
 
 -- in a turn there is a clause to come, and room for it
-module _ (c : tie.In-loop invariant-loop decreases-loop) where
+module _ (c : tie.In-loop-rest invariant-loop decreases-loop) where
   abbrev b : Bool
-  b = c.before.before.before.args.positive
+  b = c.args.positive
 
   abbrev rest : ℕ
-  rest = c.before.loop.rest
+  rest = c.loop-rest.rest
 
   step : units_of b rest ≡ unit_of b (lowest rest) ∷ units_of b (minus rest (lowest rest))
-  step = units_of_step b rest (nonzero rest c.loop-test.true)
+  step = units_of_step b rest (nonzero rest c.loop-rest-test.true)
 
-  room : clause_words (c.before.loop.count + 1) ≤ length c.before.loop.t
+  room : clause_words (c.loop-rest.count + 1) ≤ length c.loop-rest.t
   room =
       omega (
         arith,
         ap length step,
-        sym (length-all c.before.loop.t c.before.loop.count b rest) ∙ ap length c.before.loop.invariant.1
-            ∙ length-all c.before.before.before.args.t.now c.before.before.before.args.clauses b c.before.before.before.args.word,
+        sym (length-all c.loop-rest.t c.loop-rest.count b rest) ∙ ap length c.loop-rest.invariant.1
+            ∙ length-all c.args.t.now c.args.clauses b c.args.word,
       )
 
 put-requires : tie.Need-put-requires invariant-loop decreases-loop
 put-requires c κs = room c.before.before.before
 
-minus-requires : tie.Need-minus-requires invariant-loop decreases-loop
+minus-requires : tie.Need-minus-rest-requires invariant-loop decreases-loop
 minus-requires c κs = search rules
 
-add-count : tie.Need-overflow-add-count invariant-loop decreases-loop
+add-count : tie.Need-overflow_add-count invariant-loop decreases-loop
 add-count c = omega (arith, room c.before.before.before.before.before.before.before)
 
-loop-less : tie.Need-loop-smaller invariant-loop decreases-loop
+loop-less : tie.Need-loop-rest-smaller invariant-loop decreases-loop
 loop-less c =
-    let lowest-of = c.before.before.before.before.before.before in
-    let left : c.minus.result ≡ minus (rest lowest-of.before) (lowest (rest lowest-of.before)) =
-    c.minus.ensures ∙ ap (minus _) lowest-of.lowest-of.ensures
+    let left : c.minus-rest.result ≡ minus (rest c.before.before.before.before.before.before.before) (lowest (rest c.before.before.before.before.before.before.before)) =
+    c.minus-rest.ensures ∙ ap (minus _) c.lowest_of-lowest.ensures
     in
-    rw left (omega (arith, ap length (step lowest-of.before)))
+    rw left (omega (arith, ap length (step c.before.before.before.before.before.before.before)))
 
-loop-again : tie.Need-loop-preserved invariant-loop decreases-loop
-loop-again c =
-    let put = c.before.before.before in
-    let lowest-of = put.before.before.before in
-    let in-loop = lowest-of.before in (
-      ap length put.put.ensures ∙ put_clause_length _ _ _ ∙ in-loop.before.loop.invariant.0,
-      turn _ _ _ _ _ _ _ _ (room in-loop) (step in-loop) lowest-of.lowest-of.ensures put.before.unit-of.ensures c.minus.ensures
-          put.put.ensures
-          ∙ in-loop.before.loop.invariant.1,
-    )
+loop-again : tie.Need-loop-rest-preserved invariant-loop decreases-loop
+loop-again c = (
+  ap length c.put.ensures ∙ put_clause_length _ _ _ ∙ c.loop-rest.invariant.0,
+  turn _ _ _ _ _ _ _ _ (room c.before.before.before.before.before.before.before) (step c.before.before.before.before.before.before.before) c.lowest_of-lowest.ensures c.unit_of.ensures c.minus-rest.ensures
+      c.put.ensures
+      ∙ c.loop-rest.invariant.1,
+)
 
-same_length : tie.Need-same-length invariant-loop decreases-loop
-same_length c = c.before.loop.invariant.0
+same_length : tie.Need-shape_of-t invariant-loop decreases-loop
+same_length c = c.loop-rest.invariant.0
 
 returns : tie.Need-returns invariant-loop decreases-loop
 returns c =
-    let start = c.before.before.before in
-    let none : units_of start.args.positive c.before.loop.rest ≡ [] = rw c.loop-test.false (units_of_zero _) in
-    sym (append-nil _) ∙ ap (λ (l : List Clause). clauses c.before.loop.t c.before.loop.count ++ l) (sym none) ∙ c.before.loop.invariant.1
+    let none : units_of c.args.positive c.loop-rest.rest ≡ [] = rw c.loop-rest-test.false (units_of_zero _) in
+    sym (append-nil _) ∙ ap (λ (l : List Clause). clauses c.loop-rest.t c.loop-rest.count ++ l) (sym none) ∙ c.loop-rest.invariant.1
 
-pub add-units-spec : {M : Type 1} → statement M
-add-units-spec =
+pub add_units_spec : {M : Type 1} → statement M
+add_units_spec =
     tie.close
     (tie.spec
     invariant-loop

@@ -12,11 +12,11 @@ use Rattle.book.proofs.Placed.{placed_nil, placed_cons}
 use Rattle.book.proofs.word.put_word.Statement.{statement}
 use Rattle.book.proofs.word.put_word.Tie as tie
 
-abbrev invariant-loop : tie.invariant-loop
+abbrev invariant-loop : tie.invariant-loop-i
 invariant-loop word at out₀ rest₀ i₀ out rest i =
     (i ≤ 8) × (length out ≡ length out₀) × (placed out (at + i) (bytes_of (8 - i) rest) ≡ placed out₀ at (bytes_of 8 word))
 
-abbrev decreases-loop : tie.decreases-loop
+abbrev decreases-loop : tie.decreases-loop-i
 decreases-loop word at out₀ rest₀ i₀ out rest i = 8 - i
 
 -- a turn: a byte is stored, and the others are those of the quotient
@@ -35,39 +35,39 @@ done out at rest i h =
     let none : 8 - i ≡ 0 = omega arith in
     rw none (placed_nil out (at + i))
 
-loop-holds : tie.Need-loop-init invariant-loop decreases-loop
+loop-holds : tie.Need-loop-i-init invariant-loop decreases-loop
 loop-holds c = (omega arith, refl, rw add-zero)
 
-cast-out : tie.Need-overflow-cast-out invariant-loop decreases-loop
+cast-out : tie.Need-overflow_cast-out invariant-loop decreases-loop
 cast-out c = omega arith
 
-add-out : tie.Need-overflow-add-out invariant-loop decreases-loop
+add-out : tie.Need-overflow_add-out invariant-loop decreases-loop
 add-out c = omega arith
 
-slice-write-out : tie.Need-slice-write-out invariant-loop decreases-loop
+slice-write-out : tie.Need-bounds-out-at invariant-loop decreases-loop
 slice-write-out c = omega arith
 
-add-i : tie.Need-overflow-add-i invariant-loop decreases-loop
+add-i : tie.Need-overflow_add-i invariant-loop decreases-loop
 add-i c = omega arith
 
-loop-less : tie.Need-loop-smaller invariant-loop decreases-loop
+loop-less : tie.Need-loop-i-smaller invariant-loop decreases-loop
 loop-less c = omega arith
 
-loop-again : tie.Need-loop-preserved invariant-loop decreases-loop
+loop-again : tie.Need-loop-i-preserved invariant-loop decreases-loop
 loop-again c = (
   omega arith,
-  simp length-set c.before.loop.invariant.1,
-  sym (turn _ c.before.before.args.at c.before.loop.i _ (omega arith) (omega arith)) ∙ c.before.loop.invariant.2,
+  simp length-set c.loop-i.invariant.1,
+  sym (turn _ c.args.at c.loop-i.i _ (omega arith) (omega arith)) ∙ c.loop-i.invariant.2,
 )
 
-same_length : tie.Need-same-length invariant-loop decreases-loop
-same_length c = c.before.loop.invariant.1
+same_length : tie.Need-shape_of-out invariant-loop decreases-loop
+same_length c = c.loop-i.invariant.1
 
 returns : tie.Need-returns invariant-loop decreases-loop
-returns c = sym (done _ _ _ c.before.loop.i (omega arith)) ∙ c.before.loop.invariant.2
+returns c = sym (done _ _ _ c.loop-i.i (omega arith)) ∙ c.loop-i.invariant.2
 
-pub put-word-spec : {M : Type 1} → statement M
-put-word-spec =
+pub put_word_spec : {M : Type 1} → statement M
+put_word_spec =
     tie.close
     (tie.spec
     invariant-loop

@@ -29,62 +29,62 @@ small bs at left all some =
     let most : 256 ^ (8 - left) ≤ 256 ^ 7 = pow-le-pow_right (omega arith) {j = 7} (omega arith) in
     omega (arith, number_lt (8 - left) (drop (at + left) bs) (bytes_drop bs (at + left) all))
 
-abbrev invariant-loop : tie.invariant-loop
+abbrev invariant-loop : tie.invariant-loop-left
 invariant-loop bytes at word₀ left₀ word left = (left ≤ 8) × (word ≡ passed bytes at left)
 
-abbrev decreases-loop : tie.decreases-loop
+abbrev decreases-loop : tie.decreases-loop-left
 decreases-loop bytes at word₀ left₀ word left = left
 
-loop-holds : tie.Need-loop-init invariant-loop decreases-loop
+loop-holds : tie.Need-loop-left-init invariant-loop decreases-loop
 unfolding number
 loop-holds c = (omega arith, refl)
 
-sub-left : tie.Need-overflow-sub-left invariant-loop decreases-loop
+sub-left : tie.Need-overflow_sub-left invariant-loop decreases-loop
 sub-left c = omega arith
 
-add-byte : tie.Need-overflow-add-byte invariant-loop decreases-loop
+add-byte : tie.Need-overflow_add-byte invariant-loop decreases-loop
 add-byte c = omega arith
 
-shared-slice-read-byte : tie.Need-shared-slice-read-byte invariant-loop decreases-loop
+shared-slice-read-byte : tie.Need-bounds-bytes-at invariant-loop decreases-loop
 shared-slice-read-byte c = omega arith
 
 -- the bytes, and what is known of them in a turn
-module _ (c : tie.After-shared-slice-known invariant-loop decreases-loop) where
+module _ (c : tie.After-shared_slice_known-1 invariant-loop decreases-loop) where
   abbrev bytes : List ℕ
-  bytes = c.before.before.before.args.bytes.now
+  bytes = c.args.bytes.now
 
   abbrev at : ℕ
-  at = c.before.before.before.args.at
+  at = c.args.at
 
   abbrev left : ℕ
-  left = c.before.before.loop.left
+  left = c.loop-left.left
 
   bound : passed bytes at left < 256 ^ 7
-  bound = small bytes at left (λ i. (c.shared-slice-known.given i).fits) c.before.loop-test.true
+  bound = small bytes at left (λ i. (c.shared_slice_known-1.given i).fits) c.loop-left-test.true
 
-cast-byte : tie.Need-overflow-cast-byte invariant-loop decreases-loop
-cast-byte c = omega (arith, c.shared-slice-known.given (at c + (left c - 1)))
+cast-byte : tie.Need-overflow_cast-byte invariant-loop decreases-loop
+cast-byte c = omega (arith, c.shared_slice_known-1.given (at c + (left c - 1)))
 
-mul-word : tie.Need-overflow-mul-word invariant-loop decreases-loop
+mul-word : tie.Need-overflow_mul-word invariant-loop decreases-loop
 mul-word c = omega (arith, bound c)
 
-add-word : tie.Need-overflow-add-word invariant-loop decreases-loop
-add-word c = omega (arith, bound c, c.shared-slice-known.given (at c + (left c - 1)))
+add-word : tie.Need-overflow_add-word invariant-loop decreases-loop
+add-word c = omega (arith, bound c, c.shared_slice_known-1.given (at c + (left c - 1)))
 
-loop-less : tie.Need-loop-smaller invariant-loop decreases-loop
+loop-less : tie.Need-loop-left-smaller invariant-loop decreases-loop
 loop-less c = omega arith
 
-loop-again : tie.Need-loop-preserved invariant-loop decreases-loop
+loop-again : tie.Need-loop-left-preserved invariant-loop decreases-loop
 loop-again c = omega (arith, more (bytes c) (at c) (left c) (omega arith) (omega arith) (omega arith))
 
 returns : tie.Need-returns invariant-loop decreases-loop
 unfolding word_at
 returns c =
-    let none : c.before.loop.left ≡ 0 = omega arith in
-    c.before.loop.invariant.1 ∙ rw (none, add-zero)
+    let none : c.loop-left.left ≡ 0 = omega arith in
+    c.loop-left.invariant.1 ∙ rw (none, add-zero)
 
-pub word-at-spec : {M : Type 1} → statement M
-word-at-spec =
+pub word_at_spec : {M : Type 1} → statement M
+word_at_spec =
     tie.close
     (tie.spec
     invariant-loop
