@@ -185,7 +185,7 @@ def mended(path, text, names, spec):
         grown = True
         while grown:
             grown = False
-            for m in re.finditer(rf"\blet ({WORD}+)(?: : [^=]*?)? = ({WORD}+)((?:\.before)*) in\b", b):
+            for m in re.finditer(rf"\blet ({WORD}+)(?: : [^=]*?)? =\s+({WORD}+)((?:\.before)*) in\b", b):
                 if m[2] in roots and m[1] not in roots:
                     roots[m[1]] = roots[m[2]]
                     grown = True
@@ -195,12 +195,17 @@ def mended(path, text, names, spec):
                 return m[0]
             return "" if m[5].endswith("\n") and m[1] else m[1]
 
-        b = re.sub(rf"([ \t]*)\blet ({WORD}+)(?: : [^=]*?)? = ({WORD}+)((?:\.before)*) in\b( ?\n?)", bound, b)
+        b = re.sub(rf"([ \t]*)\blet ({WORD}+)(?: : [^=]*?)? =\s+({WORD}+)((?:\.before)*) in\b( ?\n?)", bound, b)
         for alias, to in roots.items():
             if alias != to:
                 after = r"(?=\.)" if alias in helpers or alias in declared else r"(?=[.)\],;]|$)" if alias == "at" else r"(?=[.\s(){}\[\],;]|$)(?! [=:→])"
                 b = re.sub(rf"{BEGIN}{re.escape(alias)}{after}", to, b, flags=re.M)
         b = re.sub(r"(?:\.before)+(?=\.(?!before\b)[^\s(){}\[\],;.0-9])", "", b)
+
+        # what is bound to the parts of an arm goes too
+        for m in re.finditer(rf"[ \t]*\blet ({WORD}+) =\s+((?:{WORD}+)(?:\.before)*\.{WORD}+\.given) in\b ?\n?", b):
+            b = b.replace(m[0], "", 1)
+            b = re.sub(rf"{BEGIN}{re.escape(m[1])}(?=\.[0-9])", m[2], b)
 
         def arm(m):
             head, token, path = m[1], norm(m[2]), m[3].strip(".").split(".")
@@ -265,7 +270,8 @@ def mended(path, text, names, spec):
                 return m[0]
             return f"{m[1]} {m[2]}" + ".before" * n
 
-        b = re.sub(rf"{BEGIN}({WORD}+) ({WORD}+)((?:\.before)*)(?=[\s(){{}}\[\],;]|$|\.(?!before))(?! =)(?! κs =)", lambda m: call(m) if m[1] in helpers else m[0], b)
+        listed = "|".join(sorted(map(re.escape, helpers), key=len, reverse=True)) or "(?!)"
+        b = re.sub(rf"{BEGIN}({listed}) ({WORD}+)((?:\.before)*)(?=[\s(){{}}\[\],;]|$|\.(?!before))(?! =)(?! κs =)", call, b)
         out.append(b)
     text = "\n".join(out)
     text = re.sub(rf"^(pub )?{WORD}+[-_]spec( : \{{M : Type 1\}} → statement)", rf"pub {spec}_spec\2", text, flags=re.M)

@@ -26,158 +26,148 @@ use Rattle.enter.proofs.Turns.{apart, swept_back, swept_can, swept_lowest, swept
 use Rattle.enter.proofs.swept.Statement.{statement}
 use Rattle.enter.proofs.swept.Tie as tie
 
-last-requires : tie.Need-last-requires
-last-requires c κs = list_fits c.before.before.before.requires.0
+last-requires : tie.Need-last-d-requires
+last-requires c κs = list_fits c.requires.0
 
 undecided-requires : tie.Need-undecided-requires
 undecided-requires c κs = search rules
 
-minus-requires : tie.Need-minus-requires
+minus-requires : tie.Need-minus-live-requires
 minus-requires c κs = search rules
 
-any-falsified-requires : tie.Need-any-falsified-requires
+any-falsified-requires : tie.Need-any_falsified-requires
 any-falsified-requires c κs = search rules
 
 -- the code's live variables, where they are known
-live-word : (c : tie.After-minus) → let a = c.before.before.before.before.before.before.args in
-    c.minus.result ≡ live (env_of a.e) (assignment_of a.a) (state_of a.t.now a.rs.now a.s)
+live-word : (c : tie.After-minus-live) → let a = c.args in
+    c.minus-live.result ≡ live (env_of a.e) (assignment_of a.a) (state_of a.t.now a.rs.now a.s)
 live-word c =
-    let d = c.before.before.last in
-    live_is _ _ _ _ _ (sequent_of d.result) c.minus.ensures c.before.undecided.ensures d.ensures
+    let d = c.last-d in
+    live_is _ _ _ _ _ (sequent_of d.result) c.minus-live.ensures c.undecided.ensures d.ensures
 
 -- the look through the tallies is the definition's
-any-is : (c : tie.After-any-falsified) → let a = c.before.before.before.before.before.before.before.before.args in
-    c.any-falsified.result ≡ any (falsified (assignment_of a.a)) (clauses a.t.now a.s.clauses)
+any-is : (c : tie.After-any_falsified) → let a = c.args in
+    c.any_falsified.result ≡ any (falsified (assignment_of a.a)) (clauses a.t.now a.s.clauses)
 any-is c =
-    let start = c.before.before.before.before.before.before.before.before in
-    c.any-falsified.ensures _ _ _ (apart (env_of start.args.e) _ _ (last_recorded _ _ _ start.requires.0.shape).off) start.requires.1
+    c.any_falsified.ensures _ _ _ (apart (env_of c.args.e) _ _ (last_recorded _ _ _ c.requires.0.shape).off) c.requires.1
 
-returns : tie.Need-returns
+returns : tie.Need-returns-then-any_falsified
 returns c =
-    let m = c.before.before.before in
-    (swept_back _ _ _ (ap is_zero (sym (live-word m) ∙ c.before.before.if1.true)) (sym (any-is c.before) ∙ c.if2.true), refl)
+    (swept_back _ _ _ (ap is_zero (sym (live-word c.before.before.before) ∙ c.if-live-eq0.true)) (sym (any-is c.before) ∙ c.if-any_falsified.true), refl)
 
-returns-2 : tie.Need-returns-2
+returns-2 : tie.Need-returns-then-live-eq0
 returns-2 c =
-    let m = c.before.before.before in
-    (swept_can _ _ _ (ap is_zero (sym (live-word m) ∙ c.before.before.if1.true)) (sym (any-is c.before) ∙ c.if2.false), refl)
+    (swept_can _ _ _ (ap is_zero (sym (live-word c.before.before.before) ∙ c.if-live-eq0.true)) (sym (any-is c.before) ∙ c.if-any_falsified.false), refl)
 
-unit-clause-requires : tie.Need-unit-clause-requires
+unit-clause-requires : tie.Need-unit_clause-found-requires
 unit-clause-requires c κs = search rules
 
-enum-known-found : tie.Need-enum-known-found
+enum-known-found : tie.Need-enum_known-found
 enum-known-found c = search rules
 
-enum_told : tie.Need-enum-told
+enum_told : tie.Need-enum_told-1
 enum_told c = search rules
 
-lowest-of-requires : tie.Need-lowest-of-requires
+lowest-of-requires : tie.Need-lowest_of-requires
 lowest-of-requires c κs = search rules
 
 -- the look-up is the definition's
-unit-found : (c : tie.After-unit-clause) → let a = c.before.before.before.before.before.before.before.before.args in
-    found_of c.unit-clause.result
+unit-found : (c : tie.After-unit_clause-found) → let a = c.args in
+    found_of c.unit_clause-found.result
     ≡
     find
     (unit (assignment_of a.a) (redundant (state_of a.t.now a.rs.now a.s)))
     (clauses a.t.now a.s.clauses)
-unit-found c = c.unit-clause.ensures _ _ c.before.before.before.before.before.before.before.before.requires.1
+unit-found c = c.unit_clause-found.ensures _ _ c.requires.1
 
-returns-3 : tie.Need-returns-3
+returns-3 : tie.Need-returns-in_default
 returns-3 c =
-    let m = c.before.before.before.before.before in
-    let a = m.before.before.before.before.before.before.args in (
+    let a = c.args in (
       (
-          ap (λ (w : ℕ). branch w false (state_of a.t.now a.rs.now a.s)) (c.lowest-of.ensures ∙ ap lowest (live-word m))
+          ap (λ (w : ℕ). branch w false (state_of a.t.now a.rs.now a.s)) (c.lowest_of.ensures ∙ ap lowest (live-word c.before.before.before.before))
           ∙
           swept_lowest
           _
           _
           _
-          (ap is_zero (sym (live-word m)) ∙ nonzero m.minus.result c.before.before.before.before.if1.false)
-          (sym (unit-found c.before.before.before) ∙ ap found_of c.before.enum_told.given.1)),
+          (ap is_zero (sym (live-word c.before.before.before.before)) ∙ nonzero c.minus-live.result c.if-live-eq0.false)
+          (sym (unit-found c.before.before) ∙ ap found_of c.in_default.is)),
       refl,
     )
 
 vars-requires : tie.Need-vars-requires
 vars-requires c κs = search rules
 
-minus-requires-2 : tie.Need-minus-requires-2
+minus-requires-2 : tie.Need-minus-requires
 minus-requires-2 c κs = search rules
 
-lowest-var-requires : tie.Need-lowest-var-requires
+lowest-var-requires : tie.Need-lowest_var-number-requires
 lowest-var-requires c κs = search rules
 
 -- where a unit clause is found: it is found by the definition, and its one undecided variable has the number that the trailing zeros give
-record Single (c : tie.After-lowest-var) : Type 0 where
+record Single (c : tie.After-lowest_var-number) : Type 0 where
   found :
-      let m = c.before.before.before.before.before.before.before.before in
-      let a = m.before.before.before.before.before.before.args in
+      let a = c.args in
       let s = state_of a.t.now a.rs.now a.s in
-      find (unit (assignment_of a.a) (redundant s)) (clauses a.t.now a.s.clauses) ≡ some (clause_of c.before.before.before.before.found.given.0.0)
+      find (unit (assignment_of a.a) (redundant s)) (clauses a.t.now a.s.clauses) ≡ some (clause_of c.in-Found.c)
   word :
-      let m = c.before.before.before.before.before.before.before.before in
-      let a = m.before.before.before.before.before.before.args in
-      2 ^ c.lowest-var.result ≡ minus (vars (clause_of c.before.before.before.before.found.given.0.0)) a.a.decided
-  below : c.lowest-var.result < 64
+      let a = c.args in
+      2 ^ c.lowest_var-number.result ≡ minus (vars (clause_of c.in-Found.c)) a.a.decided
+  below : c.lowest_var-number.result < 64
 
-single : (c : tie.After-lowest-var) → Single c
+single : (c : tie.After-lowest_var-number) → Single c
 single c =
-    let m = c.before.before.before.before.before.before.before.before in
-    let a = m.before.before.before.before.before.before.args in
+    let a = c.args in
     let s = state_of a.t.now a.rs.now a.s in
-    let told = c.before.before.before.before.found.given in
-    let cl = clause_of told.0.0 in
+    let cl = clause_of c.in-Found.c in
     let found : find (unit (assignment_of a.a) (redundant s)) (clauses a.t.now a.s.clauses) ≡ some cl =
-    sym (unit-found c.before.before.before.before.before.before) ∙ ap found_of told.1 in
+    sym (unit-found c.before.before.before.before) ∙ ap found_of c.in-Found.is in
     let is = find_some (unit (assignment_of a.a) (redundant s)) (clauses a.t.now a.s.clauses) cl found in
-    let one = unit_live (env_of a.e) (assignment_of a.a) s cl (m.before.before.before.before.before.before.requires.0.shape.clauses cl is.0) is.1 in
-    let x = c.before.minus2.result in
-    let word : x ≡ minus (vars cl) a.a.decided = c.before.minus2.ensures ∙ ap (λ (y : ℕ). minus y a.a.decided) c.before.before.vars.ensures in
+    let one = unit_live (env_of a.e) (assignment_of a.a) s cl (c.requires.0.shape.clauses cl is.0) is.1 in
+    let x = c.minus.result in
+    let word : x ≡ minus (vars cl) a.a.decided = c.minus.ensures ∙ ap (λ (y : ℕ). minus y a.a.decided) c.vars.ensures in
     let some_left : is_zero x ≡ false = ap is_zero (word ∙ one.word) ∙ member_nonzero (2 ^ one.var) one.var (has_bit one.var) in
-    let fits : x < 2 ^ 64 = omega (arith, c.before.minus2.type-inv) in
+    let fits : x < 2 ^ 64 = omega (arith, c.minus.type_inv) in
     record {
       found = found;
       word =
-          ap (λ (k : ℕ). 2 ^ k) c.lowest-var.ensures
+          ap (λ (k : ℕ). 2 ^ k) c.lowest_var-number.ensures
           ∙ sym (lowest_trailing 64 x some_left fits)
           ∙ ap lowest (word ∙ one.word)
           ∙ lowest_bit one.var
           ∙ sym one.word;
-      below = subst⁻¹ (λ (k : ℕ). k < 64) c.lowest-var.ensures (trailing_lt 64 x some_left fits);
+      below = subst⁻¹ (λ (k : ℕ). k < 64) c.lowest_var-number.ensures (trailing_lt 64 x some_left fits);
     }
 
-word-of-requires : tie.Need-word-of-requires
+word-of-requires : tie.Need-word_of-requires
 word-of-requires c κs = (single c).below
 
-minus-requires-3 : tie.Need-minus-requires-3
+minus-requires-3 : tie.Need-minus-requires-2
 minus-requires-3 c κs = search rules
 
-returns-4 : tie.Need-returns-4
+returns-4 : tie.Need-returns
 returns-4 c =
-    let n = c.before.before in
-    let m = n.before.before.before.before.before.before.before.before in
-    let a = m.before.before.before.before.before.before.args in
+    let a = c.args in
     let s = state_of a.t.now a.rs.now a.s in
-    let one = single n in (
+    let one = single c.before.before in (
       (
           ap₂
           (λ (w : ℕ) (b : Bool). branch w b s)
-          (c.before.word_of.ensures ∙ one.word)
-          (ap not (is_zero_test c.minus3.result ∙ ap is_zero c.minus3.ensures))
+          (c.word_of.ensures ∙ one.word)
+          (ap not (is_zero_test c.minus-2.result ∙ ap is_zero c.minus-2.ensures))
           ∙
           swept_unit
           _
           _
           _
-          (clause_of n.before.before.before.before.found.given.0.0)
-          (ap is_zero (sym (live-word m)) ∙ nonzero m.minus.result n.before.before.before.before.before.before.before.if1.false)
+          (clause_of c.in-Found.c)
+          (ap is_zero (sym (live-word c.before.before.before.before.before.before.before.before)) ∙ nonzero c.minus-live.result c.if-live-eq0.false)
           one.found),
       refl,
     )
 
-pub swept-spec : {M : Type 1} → statement M
-swept-spec =
+pub swept_spec : {M : Type 1} → statement M
+swept_spec =
     tie.close
     (tie.spec
     last-requires

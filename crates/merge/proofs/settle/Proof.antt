@@ -17,10 +17,10 @@ use Rattle.merge.proofs.settle.Tie as tie
 vars-requires : tie.Need-vars-requires
 vars-requires c κs = search rules
 
-returns : tie.Need-returns
+returns : tie.Need-returns-then-vars-eq0
 returns c t =
-    let x = c.before.before.before.before.args in
-    (sym (when_true (is_zero (vars (clause_of x.c))) _ _ (ap is_zero (sym c.before.vars.ensures ∙ c.if1.true))), λ tallied. tallied)
+    let x = c.args in
+    (sym (when_true (is_zero (vars (clause_of x.c))) _ _ (ap is_zero (sym c.vars.ensures ∙ c.if-vars-eq0.true))), λ tallied. tallied)
 
 undecided-requires : tie.Need-undecided-requires
 undecided-requires c κs = search rules
@@ -28,32 +28,29 @@ undecided-requires c κs = search rules
 restrike-requires : tie.Need-restrike-requires
 restrike-requires c κs = search rules
 
-append-falsified-requires : tie.Need-append-falsified-requires
+append-falsified-requires : tie.Need-append_falsified-requires
 append-falsified-requires c κs = search rules
 
-same_length : tie.Need-same-length
+same_length : tie.Need-shape_of-q
 same_length c = search rules
 
-same-length-2 : tie.Need-same-length-2
+same-length-2 : tie.Need-shape_of-rs
 same-length-2 c = search rules
 
-returns-2 : tie.Need-returns-2
+returns-2 : tie.Need-returns
 returns-2 c t =
-    let made = c.before.before.append-falsified in
-    let struck = c.before.before.before.before.before.before in
-    let test = struck.before.before.before in
-    let named = test.before.vars in
-    let start = test.before.before.before.before in
-    let x = start.args in
+    let made = c.append_falsified in
+    let named = c.vars in
+    let x = c.args in
     let s = state_of t x.rs.now x.s in
     let is = made.ensures t in (
       ap up is
-          ∙ sym (when_false (is_zero (vars (clause_of x.c))) _ _ (ap is_zero (sym named.ensures) ∙ nonzero named.result test.if1.false)),
+          ∙ sym (when_false (is_zero (vars (clause_of x.c))) _ _ (ap is_zero (sym named.ensures) ∙ nonzero named.result c.if-vars-eq0.false)),
       λ tallied.
-          tallied_at made.new.0 made.result (assignment_of x.a) _ is refl
-          (append_redundant (assignment_of x.a) _ _ s ∙ sym struck.before.undecided.ensures)
-          (struck.restrike.ensures t (assignment_of x.a) (redundant s) tallied),
+          tallied_at made.new.rs made.result (assignment_of x.a) _ is refl
+          (append_redundant (assignment_of x.a) _ _ s ∙ sym c.undecided.ensures)
+          (c.restrike.ensures t (assignment_of x.a) (redundant s) tallied),
     )
 
-pub settle-spec : {M : Type 1} → statement M
-settle-spec = tie.close (tie.spec vars-requires returns undecided-requires restrike-requires append-falsified-requires same_length same-length-2 returns-2)
+pub settle_spec : {M : Type 1} → statement M
+settle_spec = tie.close (tie.spec vars-requires returns undecided-requires restrike-requires append-falsified-requires same_length same-length-2 returns-2)
