@@ -32,7 +32,7 @@ as-it-is n m ending.Cannot a s k =
 as-it-is n m ending.OutOfBranchings a s k = refl
 as-it-is n m ending.OutOfClauses a s k = refl
 
-enum_told : tie.Need-enum-told
+enum_told : tie.Need-enum_told-1
 enum_told c = search rules
 
 tally-requires : tie.Need-tally-requires
@@ -41,15 +41,15 @@ tally-requires c κs = search rules
 told-requires : tie.Need-told-requires
 told-requires c κs = search rules
 
-returns : tie.Need-returns
+returns : tie.Need-returns-in_default
 returns c t a =
-    let x = c.before.before.before.before.args in
+    let x = c.args in
     subst
     (λ (o : Outcome). Handed t x.rs.now x.m c.told.result o)
-    (as-it-is x.vars x.m x.ending a (state_of t x.rs.now x.s) c.before.before.match.keys2)
-    (handed t x.rs.now x.m (ending_of x.ending) x.s c.before.tally.result c.told.result c.before.tally.ensures c.told.ensures)
+    (as-it-is x.vars x.m x.ending a (state_of t x.rs.now x.s) c.match.keys2)
+    (handed t x.rs.now x.m (ending_of x.ending) x.s c.tally.result c.told.result c.tally.ensures c.told.ensures)
 
-everything-requires : tie.Need-everything-requires
+everything-requires : tie.Need-everything-k-requires
 everything-requires c κs = search rules
 
 tally-requires-2 : tie.Need-tally-requires-2
@@ -58,32 +58,32 @@ tally-requires-2 c κs = search rules
 told-requires-2 : tie.Need-told-requires-2
 told-requires-2 c κs = search rules
 
-same_length : tie.Need-same-length
+same_length : tie.Need-shape_of-rs
 same_length c = search rules
 
-returns-2 : tie.Need-returns-2
+returns-2 : tie.Need-returns
 unfolding finish
 returns-2 c t a =
-    let x = c.before.before.before.before.before.before.before.before.before.args in
-    let told = c.before.before.before.before.before.before.enum_told.given.1 in
-    let all = c.before.before.before.before.everything in
+    let x = c.args in
+    let told = c.in-Cannot.is in
+    let all = c.everything-k in
     let out : Ending → List DSequent → Outcome =
     λ y l. record { ending = ending_of y; branchings = x.s.branchings; derived = drop x.m (clauses t x.s.clauses); records = l } in
     subst
-    (λ (o : Outcome). Handed t all.new.0 x.m c.told2.result o)
+    (λ (o : Outcome). Handed t all.new.rs x.m c.told-2.result o)
     (ap₂ out told all.ensures ∙ sym (ap (λ (y : Ending). finish x.vars x.m (ended (ending_of y) a (state_of t x.rs.now x.s))) told))
     (handed
     t
-    all.new.0
+    all.new.rs
     x.m
     (ending_of x.ending)
     (record { clauses = x.s.clauses; records = all.result; branchings = x.s.branchings })
-    c.before.tally2.result
-    c.told2.result
-    c.before.tally2.ensures
-    c.told2.ensures)
+    c.tally-2.result
+    c.told-2.result
+    c.tally-2.ensures
+    c.told-2.ensures)
 
-pub ended-spec : {M : Type 1} → statement M
-ended-spec =
+pub ended_spec : {M : Type 1} → statement M
+ended_spec =
     tie.close
     (tie.spec enum_told tally-requires told-requires returns everything-requires tally-requires-2 told-requires-2 same_length returns-2)

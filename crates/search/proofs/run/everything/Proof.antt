@@ -14,36 +14,35 @@ use Rattle.rows.proofs.Tables.{put_at_end}
 use Rattle.search.proofs.run.everything.Statement.{statement}
 use Rattle.search.proofs.run.everything.Tie as tie
 
-returns : tie.Need-returns
+returns : tie.Need-returns-then-vars-eq0
 unfolding sequents
-returns c = sym (when_true (is_zero c.before.before.args.vars) _ _ (ap is_zero c.if1.true))
+returns c = sym (when_true (is_zero c.args.vars) _ _ (ap is_zero c.if-vars-eq0.true))
 
-first-of-requires : tie.Need-first-of-requires
+first-of-requires : tie.Need-first_of-requires
 first-of-requires c κs = search rules
 
 put-requires : tie.Need-put-requires
-put-requires c κs = omega (arith, c.before.before.if1.false, c.before.before.before.before.requires.1)
+put-requires c κs = omega (arith, c.if-vars-eq0.false, c.requires.1)
 
-same_length : tie.Need-same-length
+same_length : tie.Need-shape_of-rs
 same_length c = search rules
 
-returns-2 : tie.Need-returns-2
+returns-2 : tie.Need-returns
 unfolding sequents
 returns-2 c =
-    let start = c.before.before.before.before.before.before.before in
-    let n = start.args.vars in
-    let some : n ≡ 0 → ⊥ = c.before.before.before.before.before.if1.false in
+    let n = c.args.vars in
+    let some : n ≡ 0 → ⊥ = c.if-vars-eq0.false in
     let only : DSequent → List DSequent = λ d. d ∷ [] in
-    let few : min n 64 ≡ n = omega (arith, start.requires.0) in
-    ap (λ (l : List ℕ). sequents l 1) c.before.before.put.ensures
+    let few : min n 64 ≡ n = omega (arith, c.requires.0) in
+    ap (λ (l : List ℕ). sequents l 1) c.put.ensures
     ∙
-    put_at_end start.args.rs.now 0 _ (omega (arith, some, start.requires.1))
+    put_at_end c.args.rs.now 0 _ (omega (arith, some, c.requires.1))
     ∙
     ap
     (λ (x : ℕ). only (record { decisions = record { decided = 0; trues = 0 }; redundant = x }))
-    (c.before.before.before.first_of.ensures ∙ ap first_vars few)
+    (c.first_of.ensures ∙ ap first_vars few)
     ∙
     sym (when_false (is_zero n) _ _ (nonzero n some))
 
-pub everything-spec : {M : Type 1} → statement M
-everything-spec = tie.close (tie.spec returns first-of-requires put-requires same_length returns-2)
+pub everything_spec : {M : Type 1} → statement M
+everything_spec = tie.close (tie.spec returns first-of-requires put-requires same_length returns-2)

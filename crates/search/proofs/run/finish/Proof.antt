@@ -11,7 +11,7 @@ use Rattle.search.proofs.Handing.{handed}
 use Rattle.search.proofs.run.finish.Statement.{statement}
 use Rattle.search.proofs.run.finish.Tie as tie
 
-enum-known-side : tie.Need-enum-known-side
+enum-known-side : tie.Need-enum_known-side
 enum-known-side c = search rules
 
 tally-requires : tie.Need-tally-requires
@@ -20,33 +20,31 @@ tally-requires c κs = search rules
 told-requires : tie.Need-told-requires
 told-requires c κs = search rules
 
-enum-known-side-2 : tie.Need-enum-known-side-2
+enum-known-side-2 : tie.Need-enum_known-side-in-Ended-1
 enum-known-side-2 c = search rules
 
 ended-requires : tie.Need-ended-requires
 ended-requires c κs = search rules
 
-returns : tie.Need-returns
+returns : tie.Need-returns-in-Up
 unfolding finish
 returns c t =
-    let x = c.before.before.before.before.before.before.args in
-    let side = c.before.before.before.side.given in
+    let x = c.args in
     subst
     (λ (o : Outcome). Handed t x.rs.now x.m c.told.result o)
-    (sym (ap (λ (y : Side). finish x.vars x.m (side_of t x.rs.now y)) side.1))
-    (handed t x.rs.now x.m can side.0.0 c.before.tally.result c.told.result c.before.tally.ensures c.told.ensures)
+    (sym (ap (λ (y : Side). finish x.vars x.m (side_of t x.rs.now y)) c.in-Up.is))
+    (handed t x.rs.now x.m can c.in-Up.s c.tally.result c.told.result c.tally.ensures c.told.ensures)
 
-same_length : tie.Need-same-length
+same_length : tie.Need-shape_of-rs
 same_length c = search rules
 
-returns-2 : tie.Need-returns-2
+returns-2 : tie.Need-returns-in-Ended
 returns-2 c t =
-    let x = c.before.before.before.before.before.before.before.before.args in
-    let told = c.before.before.before.before.before.side2.given in
+    let x = c.args in
     subst
-    (λ (o : Outcome). Handed t c.before.before.ended.new.0 x.m c.before.before.ended.result o)
-    (sym (ap (λ (y : Side). finish x.vars x.m (side_of t x.rs.now y)) told.1))
-    (c.before.before.ended.ensures t (assignment_of told.0.1.0))
+    (λ (o : Outcome). Handed t c.ended.new.rs x.m c.ended.result o)
+    (sym (ap (λ (y : Side). finish x.vars x.m (side_of t x.rs.now y)) c.in-Ended.is))
+    (c.ended.ensures t (assignment_of c.in-Ended.field-1))
 
 pub finish_spec : {M : Type 1} → statement M
 finish_spec =

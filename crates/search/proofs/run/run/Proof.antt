@@ -58,52 +58,51 @@ any-empty (c ∷ cs) = ap₂ ◌||◌ (empty-only c) (any-empty cs)
 start-requires : tie.Need-start-requires
 start-requires c κs = search rules
 
-any-falsified-requires : tie.Need-any-falsified-requires
+any-falsified-requires : tie.Need-any_falsified-requires
 any-falsified-requires c κs = search rules
 
 finish-requires : tie.Need-finish-requires
 finish-requires c κs = search rules
 
-same_length : tie.Need-same-length
+same_length : tie.Need-shape_of-t-then-any_falsified
 same_length c = search rules
 
-same-length-2 : tie.Need-same-length-2
+same-length-2 : tie.Need-shape_of-q-then-any_falsified
 same-length-2 c = search rules
 
-same-length-3 : tie.Need-same-length-3
+same-length-3 : tie.Need-shape_of-rs-then-any_falsified
 same-length-3 c = search rules
 
 -- step 1
-returns : tie.Need-returns
+returns : tie.Need-returns-then-any_falsified
 unfolding sequents
 returns c =
-    let x = c.before.before.before.before.before.before.before.before.before.before.before.before.before.before.before.args in
-    let f = c.before.before.finish in
-    let q = c.before.before.before.before.before.before.before.before.before.start in
+    let x = c.args in
+    let f = c.finish in
+    let q = c.start in
     let is =
     search_empty (env_of x.e) x.e.vars no_decisions 0 (start (clauses x.t.now x.m))
-    (sym (any-empty (clauses x.t.now x.m)) ∙ sym (c.before.before.before.before.before.any-falsified.ensures _ _ _ (zero_meets 0) q.ensures) ∙ c.before.before.before.before.if1.true) in (
-      subst (λ (s : Side). Handed x.t.now f.new.0 x.m f.result (finish x.e.vars x.m s)) is (f.ensures x.t.now),
-      subst (LeftTallied q.new.1.0) is (left_tallied x.t.now q.new.1.0 x.rs.now (side.Ended ending.Cannot (record { decided = 0; trues = 0 }) (record { clauses = x.m; records = 0; branchings = 0 })) q.ensures),
+    (sym (any-empty (clauses x.t.now x.m)) ∙ sym (c.any_falsified.ensures _ _ _ (zero_meets 0) q.ensures) ∙ c.if-any_falsified.true) in (
+      subst (λ (s : Side). Handed x.t.now f.new.rs x.m f.result (finish x.e.vars x.m s)) is (f.ensures x.t.now),
+      subst (LeftTallied q.new.q) is (left_tallied x.t.now q.new.q x.rs.now (side.Ended ending.Cannot (record { decided = 0; trues = 0 }) (record { clauses = x.m; records = 0; branchings = 0 })) q.ensures),
     )
 
-branch-requires : tie.Need-branch-requires
+branch-requires : tie.Need-branch-side-requires
 unfolding sequents
 branch-requires c κs =
-    let start = c.before.before.before.before.before.before.before.before.before.before.before.before.before.before in
-    let p = start.requires in
-    let q = c.before.before.before.before.before.before.before.before.start in (
+    let p = c.requires in
+    let q = c.start in (
       record {
         vars = p.vars;
         capacity = p.capacity;
         clauses = p.clauses;
         branchings = omega arith;
-        none_empty = sym (any-empty (clauses start.args.t.now start.args.m)) ∙ sym (c.before.before.before.before.any-falsified.ensures _ _ _ (zero_meets 0) q.ensures) ∙ c.before.before.before.if1.false;
+        none_empty = sym (any-empty (clauses c.args.t.now c.args.m)) ∙ sym (c.any_falsified.ensures _ _ _ (zero_meets 0) q.ensures) ∙ c.if-any_falsified.false;
         room = p.room;
-        shape = shape_root (env_of start.args.e) (clauses start.args.t.now start.args.m) p.proper;
+        shape = shape_root (env_of c.args.e) (clauses c.args.t.now c.args.m) p.proper;
       },
       record {
-        places = omega (arith, p.places, q.auto.1.0);
+        places = omega (arith, p.places, q.auto.q);
         entering = record { undecided = within_zero _; tallied = q.ensures };
       },
     )
@@ -111,25 +110,24 @@ branch-requires c κs =
 finish-requires-2 : tie.Need-finish-requires-2
 finish-requires-2 c κs = search rules
 
-same-length-4 : tie.Need-same-length-4
+same-length-4 : tie.Need-shape_of-t
 same-length-4 c = search rules
 
-same-length-5 : tie.Need-same-length-5
+same-length-5 : tie.Need-shape_of-q
 same-length-5 c = search rules
 
-same-length-6 : tie.Need-same-length-6
+same-length-6 : tie.Need-shape_of-rs
 same-length-6 c = search rules
 
-returns-2 : tie.Need-returns-2
+returns-2 : tie.Need-returns
 unfolding sequents
 returns-2 c =
-    let b = c.before.before.before.before.before.before.before.before.before.before in
-    let x = b.before.before.before.before.before.before.before.before.before.before.before.before.before.before.before.args in
+    let x = c.args in
     let t = clauses x.t.now x.m in
-    let f = c.before.before.finish2 in
-    let is = b.branch.ensures.0 ∙ ap (λ (k : ℕ). searched (env_of x.e) k no_decisions 0 (start t)) (all-undecided (env_of x.e)) in (
-      subst (λ (s : Side). Handed b.branch.new.0 f.new.0 x.m f.result (finish x.e.vars x.m s)) is (f.ensures b.branch.new.0),
-      subst (LeftTallied b.branch.new.1.0) is (left_tallied b.branch.new.0 b.branch.new.1.0 b.branch.new.1.1.0 b.branch.result b.branch.ensures.1),
+    let f = c.finish-2 in
+    let is = c.branch-side.ensures.0 ∙ ap (λ (k : ℕ). searched (env_of x.e) k no_decisions 0 (start t)) (all-undecided (env_of x.e)) in (
+      subst (λ (s : Side). Handed c.branch-side.new.t f.new.rs x.m f.result (finish x.e.vars x.m s)) is (f.ensures c.branch-side.new.t),
+      subst (LeftTallied c.branch-side.new.q) is (left_tallied c.branch-side.new.t c.branch-side.new.q c.branch-side.new.rs c.branch-side.result c.branch-side.ensures.1),
     )
 
 pub run_spec : {M : Type 1} → statement M

@@ -7,17 +7,17 @@ use Rattle.answer.specs.declared.Tally.{Tally}
 use Rattle.search.proofs.run.tally.Statement.{statement}
 use Rattle.search.proofs.run.tally.Tie as tie
 
-sub-derived : tie.Need-overflow-sub-derived
+sub-derived : tie.Need-overflow_sub-derived
 sub-derived c = search rules
 
-returns : tie.Need-returns
+returns : tie.Need-returns-then-m-k
 returns c = search rules
 
-returns-2 : tie.Need-returns-2
+returns-2 : tie.Need-returns-else-m-k
 returns-2 c =
-    let a = c.before.args in
-    let none : 0 ≡ a.s.clauses - a.m = omega (arith, c.if1.false) in
+    let a = c.args in
+    let none : 0 ≡ a.s.clauses - a.m = omega (arith, c.if-m-k.false) in
     ap (λ (k : ℕ). record { branchings = a.s.branchings; derived = k; records = a.s.records }) none
 
-pub tally-spec : {M : Type 1} → statement M
-tally-spec = tie.close (tie.spec sub-derived returns returns-2)
+pub tally_spec : {M : Type 1} → statement M
+tally_spec = tie.close (tie.spec sub-derived returns returns-2)
