@@ -108,33 +108,38 @@ class Names:
 
 
 def blocks(text):
-    """The text cut before each line that begins a declaration at its left edge."""
-    out, at = [], []
+    """The text cut before each declaration, those of modules too."""
+    out, at, inside = [], [], False
     for line in text.split("\n"):
-        if re.match(r"(--|pub |abbrev |unfoldable |record |data |module |use |[^\s])", line) and at and not (at[-1].startswith("--")):
-            if not re.match(r"(unfolding |\)|\]|\}|where)", line) and not (at and re.match(r"^(pub )?(\S+) :", at[0]) and False):
-                out.append(at)
-                at = []
+        if line.startswith("module "):
+            inside = True
+        elif re.match(r"[^\s)\]}]", line) and not line.startswith(("unfolding ", "where")):
+            inside = False
+        starts = re.match(r"[^\s)\]}]", line) or (inside and re.match(r"  [^\s)\]}]", line))
+        if starts and at and not at[-1].lstrip().startswith("--") and not line.lstrip().startswith(("unfolding ", "where")):
+            out.append(at)
+            at = []
         at.append(line)
     out.append(at)
     return ["\n".join(b) for b in out]
 
 
 def joined(parts):
-    """Blocks with a declaration's signature and clauses together, and its place."""
+    """Blocks with a declaration's signature and clauses together."""
     out = []
     for b in parts:
-        first = next((l for l in b.split("\n") if not l.startswith("--") and l.strip()), "")
-        name = re.match(rf"(?:pub |abbrev |unfoldable )*({WORD}+)", first)
-        if out and name and out[-1][0] == name[1] and not first.startswith(("use ", "module ", "record ", "data ")):
+        first = next((l for l in b.split("\n") if not l.lstrip().startswith("--") and l.strip()), "")
+        name = re.match(rf" *(?:pub |abbrev |unfoldable )*({WORD}+)", first)
+        if out and name and out[-1][0] == name[1] and not first.lstrip().startswith(("use ", "module ", "record ", "data ")):
             out[-1][1] += "\n" + b
         else:
             out.append([name[1] if name else "", b])
     return [b for _, b in out]
 
 
-def mended(path, text, names, spec):
+def mended(path, text, names, spec, tie_name="tie"):
     said = []
+    T = re.escape(tie_name)
 
     def tie(m):
         token = m[1]
@@ -143,44 +148,58 @@ def mended(path, text, names, spec):
             if new is None:
                 said.append(f"look: {path}: no goal for {token}")
                 return m[0]
-            return "tie.Need-" + new
+            return f"{tie_name}.Need-" + new
         for kind in ("invariant-", "decreases-"):
             if token.startswith(kind) and norm(token[len(kind):]) in names.loops:
-                return f"tie.{kind}{names.loops[norm(token[len(kind):])]}"
+                return f"{tie_name}.{kind}{names.loops[norm(token[len(kind):])]}"
         new = names.place(token)
         new = names.last.get(new, new)
-        return "tie." + new if new else m[0]
+        return f"{tie_name}." + new if new else m[0]
 
-    text = re.sub(rf"\btie\.((?:Need|After|In|At|Then|Else|Start|Arm|Case|Join|Loop|Past|Before|Of|Not|Default|Last|Came|invariant|decreases){WORD}*)", tie, text)
+    text = re.sub(rf"\b{T}\.((?:Need|After|In|At|Then|Else|Start|Arm|Case|Join|Loop|Past|Before|Of|Not|Default|Last|Came|invariant|decreases){WORD}*)", tie, text)
     text = re.sub(r"\.type-inv\b", ".type_inv", text)
     text = re.sub(r"(\.(?:if\d+|[\w-]*-test|if-[\w-]+))\.taken\b", r"\1.true", text)
     text = re.sub(r"(\.(?:if\d+|[\w-]*-test|if-[\w-]+))\.left\b", r"\1.false", text)
     helpers = {}
-    for m in re.finditer(rf"^ *(?:pub |abbrev )*({WORD}+) : tie\.Need-({WORD}+)", text, re.M):
+    for m in re.finditer(rf"^ *(?:pub |abbrev )*({WORD}+) : (?:\({WORD}+ : [^()]*\) → )?{T}\.Need-({WORD}+)", text, re.M):
         helpers[m[1]] = names.asked.get(m[2])
-    for m in re.finditer(rf"^ *(?:pub |abbrev )*({WORD}+) :(?: \{{[^}}]*\}} →)* \({WORD}+ : tie\.({WORD}+)", text, re.M):
+    for m in re.finditer(rf"^ *(?:pub |abbrev )*({WORD}+) :(?: \{{[^}}]*\}} →)* \({WORD}+ : {T}\.({WORD}+)", text, re.M):
         helpers[m[1]] = m[2]
+    for m in re.finditer(rf"^ *(?:pub |abbrev )*({WORD}+) : {T}\.((?!Need-|invariant-|decreases-){WORD}+)[^\n]*→", text, re.M):
+        helpers.setdefault(m[1], m[2])
     declared = set(re.findall(rf"^(?:abbrev |pub )*({WORD}+) :", text, re.M))
-    for m in re.finditer(rf"^(?:abbrev |pub )*({WORD}+) : tie\.({WORD}+)((?: {WORD}+)*) → tie\.({WORD}+)", text, re.M):
+    for m in re.finditer(rf"^(?:abbrev |pub )*({WORD}+) : {T}\.({WORD}+)((?: {WORD}+)*) → {T}\.({WORD}+)", text, re.M):
         helpers[m[1]] = m[2]
         n = names.depth(m[2], m[4])
         if n is not None:
             text = re.sub(rf"^{re.escape(m[1])} c = c(?:\.before)+$", f"{m[1]} c = c" + ".before" * n, text, flags=re.M)
-    for m in re.finditer(rf"^module _ \(({WORD}+) : tie\.({WORD}+)[^\n]*where\n((?:(?:  .*)?\n)*)", text, re.M):
+    for m in re.finditer(rf"^module _ \(({WORD}+) : {T}\.({WORD}+)[^\n]*where\n((?:(?:  .*)?\n)*)", text, re.M):
         for inner in re.finditer(rf"^  (?:pub |abbrev )*({WORD}+) :", m[3], re.M):
             helpers[inner[1]] = m[2]
-            at = re.search(rf": tie\.({WORD}+)", m[3][inner.start():].split("\n")[0])
+            at = re.search(rf": {T}\.({WORD}+)", m[3][inner.start():].split("\n")[0])
             if at and names.depth(m[2], at[1]) is not None:
                 text = re.sub(rf"^  {re.escape(inner[1])} = {m[1]}(?:\.before)+$", f"  {inner[1]} = {m[1]}" + ".before" * names.depth(m[2], at[1]), text, flags=re.M)
     parts = joined(blocks(text))
     out = []
+    module = None
     for b in parts:
-        m = re.search(rf"^ *(?:pub |abbrev )*({WORD}+) : tie\.Need-({WORD}+)", b, re.M)
+        head = re.search(r"^module [^\n]*", b, re.M)
+        if head:
+            m = re.search(rf"\(({WORD}+) : {T}\.({WORD}+)", head[0])
+            module = (m[1], m[2]) if m else None
+        elif re.match(r"[^\s)\]}]", next((l for l in b.split("\n") if l.strip() and not l.startswith("--")), " ")):
+            module = None
+        m = re.search(rf"^ *(?:pub |abbrev )*({WORD}+) : (?:\({WORD}+ : [^()]*\) → )?{T}\.Need-({WORD}+)", b, re.M)
         place = names.asked.get(m[2]) if m else None
-        m = re.search(rf"\(({WORD}+) : tie\.({WORD}+)", b)
+        m = re.search(rf"\(({WORD}+) : {T}\.({WORD}+)", b)
         var = "c"
+        if place is None and not m:
+            m = re.search(rf"^ *(?:pub |abbrev )*{WORD}+ : ()({T}\.)?((?!Need-|invariant-|decreases-){WORD}+)[^\n]*→", b, re.M)
+            m = m and m[2] and re.match(r"()()", "") and {1: "c", 2: m[3]}
         if m and place is None:
             var, place = m[1], m[2]
+        elif place is None and module:
+            var, place = module
         roots = {var: var, "c": "c"}
         grown = True
         while grown:
@@ -276,6 +295,7 @@ def mended(path, text, names, spec):
     text = "\n".join(out)
     text = re.sub(rf"^(pub )?{WORD}+[-_]spec( : \{{M : Type 1\}} → statement)", rf"pub {spec}_spec\2", text, flags=re.M)
     text = re.sub(rf"^{WORD}+[-_]spec =(\s+tie\.close)", rf"{spec}_spec =\1", text, flags=re.M)
+    text = re.sub(rf"^{WORD}+[-_]spec =(\s+close\b)", rf"{spec}_spec =\1", text, flags=re.M)
     return text, said
 
 
@@ -290,12 +310,20 @@ def main(argv):
             path = os.path.join(folder, "Proof.antt")
             module = os.path.relpath(folder, top).replace("/", ".")
             key = f"Rattle-{crate}-proofs.{module}."
-            lts = [v for k, v in names.items() if k.startswith(key) and k.endswith("Lts")]
-            if not lts:
-                print(f"look: {path}: no names under {key}")
-                continue
-            text = text_of(path)
-            new, said = mended(path, text, Names(lts), folder.split("/")[-1])
+            text = new = text_of(path)
+            said = []
+            spec = folder.split("/")[-1]
+            aliases = re.findall(rf"^use [\w.+'-]+\.(Lts-[\w+'-]+) as ({WORD}+)$", text, re.M)
+            if aliases:
+                for lts, alias in aliases:
+                    new, more = mended(path, new, Names([names[key + lts]]), spec, alias)
+                    said += more
+            else:
+                lts = [v for k, v in names.items() if k == key + "Lts"]
+                if not lts:
+                    print(f"look: {path}: no names under {key}")
+                    continue
+                new, said = mended(path, text, Names(lts), spec)
             for line in dict.fromkeys(said):
                 print(line)
             if new != text:

@@ -122,7 +122,7 @@ module _ (bytes : List ℕ) where
   -- as many calls as sites to come leave none
   served_out : (t : Terminal) (ss : List Site) → t.sites ≡ length ss → (terminal_after bytes t ss).sites ≡ 0
   served_out t [] e = e
-  served_out t (s ∷ ss) e = served_out _ ss (ap (λ (x : Turn). x.returned.terminal.sites) (next_called bytes t s (length ss) e))
+  served_out t (s ∷ ss) e = served_out (call bytes t s).returned.terminal ss (ap (λ (x : Turn). x.returned.terminal.sites) (next_called bytes t s (length ss) e))
 
   -- calls where no site is to come
   abbrev away : Site → Reply

@@ -45,7 +45,7 @@ module _ (bytes : List ℕ) where
 
   with_length : (part unused : ℕ) (ss : List Site) → length (served_with part unused ss) ≡ length ss
   with_length part unused [] = refl
-  with_length part unused (s ∷ ss) = ap suc (with_length part _ ss)
+  with_length part unused (s ∷ ss) = ap suc (with_length part (part + unused - used_in (reply_to bytes (part + unused) s).answer) ss)
 
   -- so are those after the first
   later_with : (whole k i unused : ℕ) (ss : List Site) → served_from bytes whole k (suc i) unused ss ≡ served_with (whole / k) unused ss

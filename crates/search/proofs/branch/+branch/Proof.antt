@@ -1,7 +1,7 @@
 -- The proof of the cycle of calls {branch}. Each place of the code where a branching has gone a stage further is a stage of `Sides`, which says what is
 -- known there; each way out is what the search comes to from that stage, and each call asks a point of it. The measure is the number of undecided
 -- variables: either side decides one more. Assumes nothing.
-use mathlib.Core.Path.{◌≡◌, ap, sym, ◌∙◌, subst}
+use mathlib.Core.Path.{◌≡◌, refl, ap, sym, ◌∙◌, subst}
 use mathlib.Core.Bool.{Bool}
 use mathlib.Core.List.{List, [], ◌∷◌}
 use mathlib.Core.Logic.{⊎_elim}
@@ -18,6 +18,7 @@ use Rattle.steps.specs.Enter.{Turn.branch}
 use Rattle.rows.specs.Values.{assignment_of, env_of, sequent_of}
 use Rattle.rows.specs.Tally.{TalliedAt}
 use Rattle.enter.specs.Turns.{turn_of, counts_of}
+use Rattle.rows.specs.declared.state.Counts.{Counts}
 use Rattle.enter.specs.declared.Turn as code
 use Rattle.enter.specs.declared.Turn.TheVariants as turn
 use Rattle.search.proofs.Branching.{search_halted}
@@ -75,37 +76,36 @@ claims t = (
 )
 
 -- a turn of one of the first two kinds does not branch
-never : (t rs : List ℕ) (x : code.Turn) → OneOf (0 ∷ 1 ∷ []) (tag_of the_type x) → (w : ℕ) (b : Bool) (s : State) → turn_of t rs x ≡ branch w b s → ⊥
+never : (t rs : List ℕ) (x : code.Turn) → ((v : ℕ) (y : Bool) (c : Counts) → x ≡ turn.Branch v y c → ⊥) → (w : ℕ) (b : Bool) (s : State) → turn_of t rs x ≡ branch w b s → ⊥
 never t rs (turn.Back c) k w b s e = let z : ◌≡◌ {A = ℕ} 0 1 = cc in omega arith
 never t rs (turn.Satisfiable c) k w b s e = let z : ◌≡◌ {A = ℕ} 0 1 = cc in omega arith
-never t rs (turn.Branch v y c) k w b s e = ⊎_elim (λ (h : 2 ≡ 0). omega arith) (λ (h : 2 ≡ 1). omega arith) k
+never t rs (turn.Branch v y c) k w b s e = k v y c refl
 
 module _ (n : ℕ) where
-  enter-requires : lts.Need-enter-requires (claims n) (at n) branch-reads.Post
-  enter-requires c κs = (ready c.before.before.before.before.before.before.requires.1.0, c.before.before.before.before.before.before.requires.1.1.entering)
+  enter-requires : lts.Need-enter-turn-requires (claims n) (at n) branch-reads.Post
+  enter-requires c κs = (ready c.requires.1.0, c.requires.1.1.entering)
 
-  enum-known-turn : lts.Need-enum-known-turn (claims n) (at n) branch-reads.Post
+  enum-known-turn : lts.Need-enum_known-turn (claims n) (at n) branch-reads.Post
   enum-known-turn c = search rules
 
-  not-branching-requires : lts.Need-not-branching-requires (claims n) (at n) branch-reads.Post
+  not-branching-requires : lts.Need-not_branching-requires (claims n) (at n) branch-reads.Post
   not-branching-requires c κs = search rules
 
-  same_length : lts.Need-same-length (claims n) (at n) branch-reads.Post
+  same_length : lts.Need-shape_of-t-in_default (claims n) (at n) branch-reads.Post
   same_length c = search rules
 
-  same-length-2 : lts.Need-same-length-2 (claims n) (at n) branch-reads.Post
+  same-length-2 : lts.Need-shape_of-q-in_default (claims n) (at n) branch-reads.Post
   same-length-2 c = search rules
 
-  same-length-3 : lts.Need-same-length-3 (claims n) (at n) branch-reads.Post
+  same-length-3 : lts.Need-shape_of-rs-in_default (claims n) (at n) branch-reads.Post
   same-length-3 c = search rules
 
-  returns : lts.Need-returns (claims n) (at n) branch-reads.Post
+  returns : lts.Need-returns-in_default (claims n) (at n) branch-reads.Post
   returns c =
-      let start = c.before.before.before.before.before.before.before.before.before.before.before.before.before in
-      let t = start.args.t.now in
-      let x = c.before.before.before.before.before.before.enter in
-      let rs = x.new.1.1.0 in
-      let made = c.not-branching.ensures t x.new.1.0 rs in (
+      let t = c.args.t.now in
+      let x = c.enter-turn in
+      let rs = x.new.rs in
+      let made = c.not_branching.ensures t x.new.q rs in (
         made.0
             ∙
             search_halted
@@ -114,20 +114,18 @@ module _ (n : ℕ) where
             _
             _
             _
-            start.requires.1.0.none_empty
+            c.requires.1.0.none_empty
             (turn_of t rs x.result)
             (sym x.ensures.0)
-            (never t rs x.result c.before.match.keys2),
+            (never t rs x.result c.in_default.not-Branch),
         made.1 x.ensures.1,
       )
 
   -- the turn is a branching
-  abbrev turned : lts.After-turn (claims n) (at n) branch-reads.Post → Turned
+  abbrev turned : lts.In-Branch (claims n) (at n) branch-reads.Post → Turned
   turned c =
-      let start = c.before.before.before.before.before.before.before.before.before.before.before.before.before in
-      let a = start.args in
-      let x = c.before.before.before.before.before.before.enter in
-      let g = c.turn.given.0 in
+      let a = c.args in
+      let x = c.enter-turn in
       record {
         t = a.t.now;
         rs = a.rs.now;
@@ -135,196 +133,194 @@ module _ (n : ℕ) where
         a = a.a;
         v = a.v;
         s = a.s;
-        point = start.requires.1.0;
+        point = c.requires.1.0;
         n = n;
-        measure = start.requires.0;
-        rs' = x.new.1.1.0;
-        same = x.auto.1.1.0;
+        measure = c.requires.0;
+        rs' = x.new.rs;
+        same = x.auto.rs;
         q = a.q.now;
-        places = start.requires.1.1.places;
-        q' = x.new.1.0;
-        same_tallies = x.auto.1.0;
-        w = g.0;
-        b = g.1.0;
-        here = g.1.1.0;
-        turn = sym (ap (turn_of a.t.now x.new.1.1.0) c.turn.given.1) ∙ x.ensures.0;
-        tallied = subst (λ (y : code.Turn). TalliedAt a.t.now x.new.1.0 x.new.1.1.0 (assignment_of a.a) (counts_of y)) c.turn.given.1 x.ensures.1;
+        places = c.requires.1.1.places;
+        q' = x.new.q;
+        same_tallies = x.auto.q;
+        w = c.in-Branch.w;
+        b = c.in-Branch.b;
+        here = c.in-Branch.here;
+        turn = sym (ap (turn_of a.t.now x.new.rs) c.in-Branch.is) ∙ x.ensures.0;
+        tallied = subst (λ (y : code.Turn). TalliedAt a.t.now x.new.q x.new.rs (assignment_of a.a) (counts_of y)) c.in-Branch.is x.ensures.1;
       }
 
-  same-length-4 : lts.Need-same-length-4 (claims n) (at n) branch-reads.Post
+  same-length-4 : lts.Need-shape_of-t-then-e-here (claims n) (at n) branch-reads.Post
   same-length-4 c = search rules
 
-  same-length-5 : lts.Need-same-length-5 (claims n) (at n) branch-reads.Post
+  same-length-5 : lts.Need-shape_of-q-then-e-here (claims n) (at n) branch-reads.Post
   same-length-5 c = search rules
 
-  same-length-6 : lts.Need-same-length-6 (claims n) (at n) branch-reads.Post
+  same-length-6 : lts.Need-shape_of-rs-then-e-here (claims n) (at n) branch-reads.Post
   same-length-6 c = search rules
 
-  returns-2 : lts.Need-returns-2 (claims n) (at n) branch-reads.Post
-  returns-2 c = let x = turned c.before.before.before.before in (spent x c.if1.true, x.tallied)
+  returns-2 : lts.Need-returns-then-e-here (claims n) (at n) branch-reads.Post
+  returns-2 c = let x = turned c.before.before.before in (spent x c.if-e-here.true, x.tallied)
 
-  add-t30 : lts.Need-overflow-add-t30 (claims n) (at n) branch-reads.Post
-  add-t30 c = omega (arith, c.before.if1.false, c.before.before.before.before.before.before.before.before.before.before.before.before.before.before.before.before.before.before.ranges)
+  add-t30 : lts.Need-overflow_add-down (claims n) (at n) branch-reads.Post
+  add-t30 c = omega (arith, c.if-e-here.false, c.ranges)
 
-  last-requires : lts.Need-last-requires (claims n) (at n) branch-reads.Post
-  last-requires c κs = here_fits (turned c.before.before.before.before.before.before)
+  last-requires : lts.Need-last-struck-requires (claims n) (at n) branch-reads.Post
+  last-requires c κs = here_fits (turned c.before.before.before.before)
 
   decide-requires : lts.Need-decide-requires (claims n) (at n) branch-reads.Post
-  decide-requires c κs = deciding (turned c.before.before.before.before.before.before.before.before.before)
+  decide-requires c κs = deciding (turned c.before.before.before.before.before.before)
 
   decide-requires-2 : lts.Need-decide-requires-2 (claims n) (at n) branch-reads.Post
   decide-requires-2 c κs = search rules
 
   -- the first side's decisions are made
-  abbrev opened : (c : lts.After-decide2 (claims n) (at n) branch-reads.Post) → Opened (turned c.before.before.before.before.before.before.before.before.before.before.before.before.before.before.before.before)
+  abbrev opened : (c : lts.After-decide-2 (claims n) (at n) branch-reads.Post) → Opened (turned c.before.before.before.before.before.before.before.before.before.before.before.before.before)
   opened c =
-      let x = turned c.before.before.before.before.before.before.before.before.before.before.before.before.before.before.before.before in
-      let d = c.before.before.before.before.before.before.before.before.before.last in
-      let q = c.before.before.before.before.before.before.decide in
+      let x = turned c.before.before.before.before.before.before.before.before.before.before.before.before.before in
+      let d = c.last-struck in
+      let q = c.decide in
       record {
-        room = c.before.before.before.before.before.before.before.before.before.before.before.before.if1.false;
-        a₁ = c.decide2.result;
-        decided = c.decide2.ensures;
+        room = c.if-e-here.false;
+        a₁ = c.decide-2.result;
+        decided = c.decide-2.ensures;
         d = sequent_of d.result;
         last_is = d.ensures;
-        q₁ = q.new.1.0;
-        same_tallies = q.auto.1.0;
+        q₁ = q.new.q;
+        same_tallies = q.auto.q;
         tallied = q.ensures (branched x).var _ _ (branched x).word (free x) x.tallied;
       }
 
-  branch-requires : lts.Need-branch-requires (claims n) (at n) branch-reads.Post
+  branch-requires : lts.Need-branch-first-requires (claims n) (at n) branch-reads.Post
   branch-requires c κs = (first_falls (opened c), (first_point (opened c), first_held (opened c)))
 
-  enum-known-first : lts.Need-enum-known-first (claims n) (at n) branch-reads.Post
+  enum-known-first : lts.Need-enum_known-first (claims n) (at n) branch-reads.Post
   enum-known-first c = search rules
 
-  enum_told : lts.Need-enum-told (claims n) (at n) branch-reads.Post
+  enum_told : lts.Need-enum_told-1 (claims n) (at n) branch-reads.Post
   enum_told c = search rules
 
   -- the first side has its result
-  abbrev first : (c : lts.After-branch (claims n) (at n) branch-reads.Post) → First (opened c.before)
+  abbrev first : (c : lts.After-branch-first (claims n) (at n) branch-reads.Post) → First (opened c.before)
   first c =
       record {
-        t₁ = c.branch.new.0;
-        rs₁ = c.branch.new.1.1.0;
-        result = c.branch.result;
-        same_table = c.branch.auto.0;
-        same_list = c.branch.auto.1.1.0;
-        q₂ = c.branch.new.1.0;
-        same_tallies = c.branch.auto.1.0;
-        tallied = c.branch.ensures.1;
-        comes = c.branch.ensures.0;
+        t₁ = c.branch-first.new.t;
+        rs₁ = c.branch-first.new.rs;
+        result = c.branch-first.result;
+        same_table = c.branch-first.auto.t;
+        same_list = c.branch-first.auto.rs;
+        q₂ = c.branch-first.new.q;
+        same_tallies = c.branch-first.auto.q;
+        tallied = c.branch-first.ensures.1;
+        comes = c.branch-first.ensures.0;
       }
 
-  same-length-7 : lts.Need-same-length-7 (claims n) (at n) branch-reads.Post
+  same-length-7 : lts.Need-shape_of-t-in_default-first (claims n) (at n) branch-reads.Post
   same-length-7 c = search rules
 
-  same-length-8 : lts.Need-same-length-8 (claims n) (at n) branch-reads.Post
-  same-length-8 c = let f = first c.before.before.before.before.before.before.before.before in f.same_tallies ∙ (opened c.before.before.before.before.before.before.before.before.before).same_tallies ∙ (turned c.before.before.before.before.before.before.before.before.before.before.before.before.before.before.before.before.before.before.before.before.before.before.before.before.before).same_tallies
+  same-length-8 : lts.Need-shape_of-q-in_default-first (claims n) (at n) branch-reads.Post
+  same-length-8 c = let f = first c.before.before.before.before.before.before.before in f.same_tallies ∙ (opened c.before.before.before.before.before.before.before.before).same_tallies ∙ (turned c.before.before.before.before.before.before.before.before.before.before.before.before.before.before.before.before.before.before.before.before.before).same_tallies
 
-  same-length-9 : lts.Need-same-length-9 (claims n) (at n) branch-reads.Post
-  same-length-9 c = let f = first c.before.before.before.before.before.before.before.before in f.same_list ∙ (turned c.before.before.before.before.before.before.before.before.before.before.before.before.before.before.before.before.before.before.before.before.before.before.before.before.before).same
+  same-length-9 : lts.Need-shape_of-rs-in_default-first (claims n) (at n) branch-reads.Post
+  same-length-9 c = let f = first c.before.before.before.before.before.before.before in f.same_list ∙ (turned c.before.before.before.before.before.before.before.before.before.before.before.before.before.before.before.before.before.before.before.before.before).same
 
-  returns-3 : lts.Need-returns-3 (claims n) (at n) branch-reads.Post
-  returns-3 c = first_ended (first c.before.before.before.before.before.before.before.before) _ _ _ c.enum_told.given.1
+  returns-3 : lts.Need-returns-in_default-first (claims n) (at n) branch-reads.Post
+  returns-3 c = first_ended (first c.before.before.before.before.before.before.before) _ _ _ c.in_default-first.is
 
   -- the first side goes back up
-  abbrev first_up : (c : lts.After-first (claims n) (at n) branch-reads.Post) → FirstUp (first c.before.before.before.before.before.before.before.before)
-  first_up c = record { one = c.first.given.0.0; is = c.first.given.1 }
+  abbrev first_up : (c : lts.In_Up-first (claims n) (at n) branch-reads.Post) → FirstUp (first c.before.before.before.before.before.before.before)
+  first_up c = record { one = c.in_Up-first.one; is = c.in_Up-first.is }
 
-  last-requires-2 : lts.Need-last-requires-2 (claims n) (at n) branch-reads.Post
-  last-requires-2 c κs = list_fits (ready (one_point (first_up c.before.before)))
+  last-requires-2 : lts.Need-last-last-requires (claims n) (at n) branch-reads.Post
+  last-requires-2 c κs = list_fits (ready (one_point (first_up c)))
 
-  without-requires : lts.Need-without-requires (claims n) (at n) branch-reads.Post
-  without-requires c κs = list_fits (ready (one_point (first_up c.before.before.before.before)))
+  without-requires : lts.Need-without-kept-requires (claims n) (at n) branch-reads.Post
+  without-requires c κs = list_fits (ready (one_point (first_up c.before.before)))
 
   turn-requires : lts.Need-turn-requires (claims n) (at n) branch-reads.Post
-  turn-requires c κs = turning (first_up c.before.before.before.before.before.before.before.before.before)
+  turn-requires c κs = turning (first_up c.before.before.before.before.before.before)
 
   decide-requires-3 : lts.Need-decide-requires-3 (claims n) (at n) branch-reads.Post
   decide-requires-3 c κs = search rules
 
   -- the second side's decisions are made
-  abbrev crossed : (c : lts.After-decide3 (claims n) (at n) branch-reads.Post) → Crossed (first_up c.before.before.before.before.before.before.before.before.before.before.before.before.before.before.before.before)
+  abbrev crossed : (c : lts.After-decide-3 (claims n) (at n) branch-reads.Post) → Crossed (first_up c.before.before.before.before.before.before.before.before.before.before.before.before.before)
   crossed c =
-      let u = first_up c.before.before.before.before.before.before.before.before.before.before.before.before.before.before.before.before in
-      let x = turned c.before.before.before.before.before.before.before.before.before.before.before.before.before.before.before.before.before.before.before.before.before.before.before.before.before.before.before.before.before.before.before.before.before.before.before.before.before.before.before.before.before in
-      let w = c.before.before.before.before.before.before.before.before.before.before.before.without in
-      let d = c.before.before.before.before.before.before.before.before.before.before.before.before.before.last2 in
-      let q = c.before.before.before.before.before.before.turn2 in
+      let u = first_up c.before.before.before.before.before.before.before.before.before.before.before.before.before in
+      let x = turned c.before.before.before.before.before.before.before.before.before.before.before.before.before.before.before.before.before.before.before.before.before.before.before.before.before.before.before.before.before.before.before.before.before.before in
+      let w = c.without-kept in
+      let d = c.last-last in
+      let q = c.turn in
       record {
-        rs₂ = w.new.0;
+        rs₂ = w.new.rs;
         k = w.result;
-        same = w.auto.0;
+        same = w.auto.rs;
         kept = w.ensures;
-        a₂ = c.decide3.result;
-        decided = c.decide3.ensures;
+        a₂ = c.decide-3.result;
+        decided = c.decide-3.ensures;
         d = sequent_of d.result;
         last_is = d.ensures;
-        q₃ = q.new.1.0;
-        same_tallies = q.auto.1.0;
+        q₃ = q.new.q;
+        same_tallies = q.auto.q;
         tallied = q.ensures (branched x).var _ _ (branched x).word (free x) (up_tallied u);
       }
 
-  branch-requires-2 : lts.Need-branch-requires-2 (claims n) (at n) branch-reads.Post
+  branch-requires-2 : lts.Need-branch-second-requires (claims n) (at n) branch-reads.Post
   branch-requires-2 c κs = (second_falls (crossed c), (second_point (crossed c), second_held (crossed c)))
 
-  enum-known-second : lts.Need-enum-known-second (claims n) (at n) branch-reads.Post
+  enum-known-second : lts.Need-enum_known-second (claims n) (at n) branch-reads.Post
   enum-known-second c = search rules
 
-  enum-told-2 : lts.Need-enum-told-2 (claims n) (at n) branch-reads.Post
+  enum-told-2 : lts.Need-enum_told-in_default-second (claims n) (at n) branch-reads.Post
   enum-told-2 c = search rules
 
   -- the second side has its result
-  abbrev second : (c : lts.After-branch2 (claims n) (at n) branch-reads.Post) → Second (crossed c.before)
+  abbrev second : (c : lts.After-branch-second (claims n) (at n) branch-reads.Post) → Second (crossed c.before)
   second c =
       record {
-        t₂ = c.branch2.new.0;
-        rs₃ = c.branch2.new.1.1.0;
-        result = c.branch2.result;
-        same_table = c.branch2.auto.0;
-        same_list = c.branch2.auto.1.1.0;
-        q₄ = c.branch2.new.1.0;
-        same_tallies = c.branch2.auto.1.0;
-        tallied = c.branch2.ensures.1;
-        comes = c.branch2.ensures.0;
+        t₂ = c.branch-second.new.t;
+        rs₃ = c.branch-second.new.rs;
+        result = c.branch-second.result;
+        same_table = c.branch-second.auto.t;
+        same_list = c.branch-second.auto.rs;
+        q₄ = c.branch-second.new.q;
+        same_tallies = c.branch-second.auto.q;
+        tallied = c.branch-second.ensures.1;
+        comes = c.branch-second.ensures.0;
       }
 
-  same-length-10 : lts.Need-same-length-10 (claims n) (at n) branch-reads.Post
-  same-length-10 c = tables_same (second c.before.before.before.before.before.before.before.before)
+  same-length-10 : lts.Need-shape_of-t-in_default-second (claims n) (at n) branch-reads.Post
+  same-length-10 c = tables_same (second c.before.before.before.before.before.before.before)
 
-  same-length-11 : lts.Need-same-length-11 (claims n) (at n) branch-reads.Post
-  same-length-11 c = tallies_same (second c.before.before.before.before.before.before.before.before)
+  same-length-11 : lts.Need-shape_of-q-in_default-second (claims n) (at n) branch-reads.Post
+  same-length-11 c = tallies_same (second c.before.before.before.before.before.before.before)
 
-  same-length-12 : lts.Need-same-length-12 (claims n) (at n) branch-reads.Post
-  same-length-12 c = lists_same (second c.before.before.before.before.before.before.before.before)
+  same-length-12 : lts.Need-shape_of-rs-in_default-second (claims n) (at n) branch-reads.Post
+  same-length-12 c = lists_same (second c.before.before.before.before.before.before.before)
 
-  returns-4 : lts.Need-returns-4 (claims n) (at n) branch-reads.Post
-  returns-4 c = second_ended (second c.before.before.before.before.before.before.before.before) _ _ _ c.enum-told2.given.1
+  returns-4 : lts.Need-returns-in_default-second (claims n) (at n) branch-reads.Post
+  returns-4 c = second_ended (second c.before.before.before.before.before.before.before) _ _ _ c.in_default-second.is
 
   merge-requires : lts.Need-merge-requires (claims n) (at n) branch-reads.Post
   merge-requires c κs =
-      let z = second c.before.before.before.before.before.before.before.before.before.before.before.before in
-      let g = c.before.before.before.before.second.given in
-      (mergeable z g.0.0 g.1, merging z g.0.0 g.1)
+      let z = second c.before.before.before.before.before.before.before.before.before.before in
+      (mergeable z c.in_Up-second.two c.in_Up-second.is, merging z c.in_Up-second.two c.in_Up-second.is)
 
-  same-length-13 : lts.Need-same-length-13 (claims n) (at n) branch-reads.Post
-  same-length-13 c = c.before.before.before.before.before.before.merge.auto.0 ∙ tables_same (second c.before.before.before.before.before.before.before.before.before.before.before.before.before.before.before.before.before.before.before)
+  same-length-13 : lts.Need-shape_of-t (claims n) (at n) branch-reads.Post
+  same-length-13 c = c.merge.auto.t ∙ tables_same (second c.before.before.before.before.before.before.before.before.before.before.before.before.before.before.before.before.before)
 
-  same-length-14 : lts.Need-same-length-14 (claims n) (at n) branch-reads.Post
-  same-length-14 c = c.before.before.before.before.before.before.merge.auto.1.0 ∙ tallies_same (second c.before.before.before.before.before.before.before.before.before.before.before.before.before.before.before.before.before.before.before)
+  same-length-14 : lts.Need-shape_of-q (claims n) (at n) branch-reads.Post
+  same-length-14 c = c.merge.auto.q ∙ tallies_same (second c.before.before.before.before.before.before.before.before.before.before.before.before.before.before.before.before.before)
 
-  same-length-15 : lts.Need-same-length-15 (claims n) (at n) branch-reads.Post
-  same-length-15 c = c.before.before.before.before.before.before.merge.auto.1.1.0 ∙ lists_same (second c.before.before.before.before.before.before.before.before.before.before.before.before.before.before.before.before.before.before.before)
+  same-length-15 : lts.Need-shape_of-rs (claims n) (at n) branch-reads.Post
+  same-length-15 c = c.merge.auto.rs ∙ lists_same (second c.before.before.before.before.before.before.before.before.before.before.before.before.before.before.before.before.before)
 
-  returns-5 : lts.Need-returns-5 (claims n) (at n) branch-reads.Post
+  returns-5 : lts.Need-returns (claims n) (at n) branch-reads.Post
   returns-5 c =
-      let g = c.before.before.before.before.before.before.before.before.before.before.before.second.given in
-      let x = c.before.before.before.before.before.before.merge.ensures in
-      (x.0 ∙ merged (second c.before.before.before.before.before.before.before.before.before.before.before.before.before.before.before.before.before.before.before) g.0.0 g.1, x.1)
+      let x = c.merge.ensures in
+      (x.0 ∙ merged (second c.before.before.before.before.before.before.before.before.before.before.before.before.before.before.before.before.before) c.in_Up-second.two c.in_Up-second.is, x.1)
 
-pub +branch-spec : {M : Type 1} → statement M
-+branch-spec =
+pub +branch_spec : {M : Type 1} → statement M
++branch_spec =
     close μ-branch λ t.
     lts.spec
     (claims t)

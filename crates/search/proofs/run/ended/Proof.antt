@@ -23,12 +23,11 @@ use Rattle.search.proofs.run.ended.Tie as tie
 
 -- an ending that is not "cannot" hands out the list as it is
 as-it-is :
-    (n m : ℕ) (x : Ending) (a : Assignment) (s : State) → OneOf (0 ∷ 2 ∷ 3 ∷ []) (tag_of the_type x) →
+    (n m : ℕ) (x : Ending) (a : Assignment) (s : State) → (x ≡ ending.Cannot → ⊥) →
     outcome m (ending_of x) s.records s ≡ finish n m (ended (ending_of x) a s)
 unfolding finish
 as-it-is n m ending.Can a s k = refl
-as-it-is n m ending.Cannot a s k =
-    ⊎_elim (λ (h : 1 ≡ 0). absurd (omega arith)) (⊎_elim (λ (h : 1 ≡ 2). absurd (omega arith)) (λ (h : 1 ≡ 3). absurd (omega arith))) k
+as-it-is n m ending.Cannot a s k = absurd (k refl)
 as-it-is n m ending.OutOfBranchings a s k = refl
 as-it-is n m ending.OutOfClauses a s k = refl
 
@@ -46,7 +45,7 @@ returns c t a =
     let x = c.args in
     subst
     (λ (o : Outcome). Handed t x.rs.now x.m c.told.result o)
-    (as-it-is x.vars x.m x.ending a (state_of t x.rs.now x.s) c.match.keys2)
+    (as-it-is x.vars x.m x.ending a (state_of t x.rs.now x.s) c.in_default.not-Cannot)
     (handed t x.rs.now x.m (ending_of x.ending) x.s c.tally.result c.told.result c.tally.ensures c.told.ensures)
 
 everything-requires : tie.Need-everything-k-requires
