@@ -138,7 +138,7 @@ def joined(parts):
 
 
 def mended(path, text, names, spec, tie_name="tie"):
-    said = []
+    said, gone = [], []
     T = re.escape(tie_name)
 
     def tie(m):
@@ -146,7 +146,7 @@ def mended(path, text, names, spec, tie_name="tie"):
         if token.startswith("Need-"):
             new = names.need(token[5:])
             if new is None:
-                said.append(f"look: {path}: no goal for {token}")
+                gone.append(token[5:])
                 return m[0]
             return f"{tie_name}.Need-" + new
         for kind in ("invariant-", "decreases-"):
@@ -157,6 +157,14 @@ def mended(path, text, names, spec, tie_name="tie"):
         return f"{tie_name}." + new if new else m[0]
 
     text = re.sub(rf"\b{T}\.((?:Need|After|In|At|Then|Else|Start|Arm|Case|Join|Loop|Past|Before|Of|Not|Default|Last|Came|invariant|decreases){WORD}*)", tie, text)
+    # what Rattle no longer asks
+    for token in gone:
+        m = re.search(rf"^( *)({WORD}+) : {T}\.Need-{re.escape(token)}(?!{WORD})[^\n]*\n(?:(?!\n)(?:.*\n))*?\n", text, re.M)
+        if m and len(re.findall(rf"(?<!{WORD}){re.escape(m[2])}(?!{WORD})", text)) == 3:
+            text = text.replace(m[0], "", 1)
+            text = re.sub(rf"\s*\(?(?<!{WORD}){re.escape(m[2])}(?!{WORD})( t\))?(?=[\s)])", "", text)
+        else:
+            said.append(f"look: {path}: no goal for {token}")
     text = re.sub(r"\.type-inv\b", ".type_inv", text)
     text = re.sub(r"(\.(?:if\d+|[\w-]*-test|if-[\w-]+))\.taken\b", r"\1.true", text)
     text = re.sub(r"(\.(?:if\d+|[\w-]*-test|if-[\w-]+))\.left\b", r"\1.false", text)
@@ -180,9 +188,16 @@ def mended(path, text, names, spec, tie_name="tie"):
             if at and names.depth(m[2], at[1]) is not None:
                 text = re.sub(rf"^  {re.escape(inner[1])} = {m[1]}(?:\.before)+$", f"  {inner[1]} = {m[1]}" + ".before" * names.depth(m[2], at[1]), text, flags=re.M)
     parts = joined(blocks(text))
+    placed = set(re.findall(rf"^ *(?:pub |abbrev )*({WORD}+) :(?: \([^()]*\) →| {T}\.{WORD}+[^\n→]*→)* {T}\.(?!Need-|invariant-|decreases-){WORD}+(?: \([^()]*\)| {WORD}+)*$", text, re.M))
+    for m in re.finditer(rf"\blet ({WORD}+) =\s+({WORD}+) {WORD}+ in\b", text):
+        if m[2] in placed:
+            placed.add(m[1])
     out = []
     module = None
     for b in parts:
+        if tie_name != "tie" and f"{tie_name}." not in b:
+            out.append(b)
+            continue
         head = re.search(r"^module [^\n]*", b, re.M)
         if head:
             m = re.search(rf"\(({WORD}+) : {T}\.({WORD}+)", head[0])
@@ -248,9 +263,16 @@ def mended(path, text, names, spec, tie_name="tie"):
             return f"{head}.{next(iter(news))}"
 
         path_of = path
-        b = re.sub(rf"{BEGIN}({WORD}+|\({WORD}+ {WORD}+\))\.({WORD}+)((?:\.given)(?:\.[0-9])+)", arm, b)
-        root = "|".join(sorted(map(re.escape, {var, "c", "w", "e", "f"}), key=len, reverse=True))
-        b = re.sub(rf"{BEGIN}({root}|\({WORD}+ {WORD}+\))\.({WORD}+)", step, b)
+        b = re.sub(rf"{BEGIN}({WORD}+|\({WORD}+ {WORD}+(?:\.before)*\))\.({WORD}+)((?:\.given)(?:\.[0-9])+)", arm, b)
+        root = "|".join(sorted(map(re.escape, {var, "c", "w", "e", "f"} | placed), key=len, reverse=True))
+        whole = rf"{BEGIN}({root}|\({WORD}+ {WORD}+(?:\.before)*\))"
+        b = re.sub(rf"{whole}\.pre\b", r"\1.requires", b)
+        b = re.sub(rf"{whole}\.fits\.", r"\1.ranges.", b)
+        b = re.sub(rf"{whole}\.({WORD}+)\.inv\b", r"\1.\2.invariant", b)
+        b = re.sub(rf"{whole}\.({WORD}+)\.ok\b", r"\1.\2.type_inv", b)
+        b = re.sub(rf"{whole}\.({WORD}+)\.kept\b", r"\1.\2.auto", b)
+        b = re.sub(rf"{whole}\.({WORD}+)\.last\b", r"\1.\2.new", b)
+        b = re.sub(rf"{BEGIN}({root}|\({WORD}+ {WORD}+(?:\.before)*\))\.({WORD}+)", step, b)
 
         def param(m):
             ones = m[3].count(".1")
@@ -262,6 +284,7 @@ def mended(path, text, names, spec, tie_name="tie"):
 
         b = re.sub(rf"\.({WORD}+)\.(new|auto|kept|last)((?:\.1)*)\.0\b", param, b)
 
+        b = re.sub(rf"(?<=[\s(\[,])({root})\.pre\b", r"\1.requires", b)
         for m in re.finditer(rf"\blet ({WORD}+)(?: : [^=]*?)? = c\.({WORD}+) in\b", b):
             if m[2] in names.params:
                 listed = names.params[m[2]]

@@ -3,7 +3,7 @@
 
 // A desk for so many options: the current order, which drafts are kept (draft d at bit d - 1), and the order of each draft (in place d - 1).
 #[repr(C)]
-#[derive(Drop)]
+#[derive(Clone, Copy)]
 pub struct Desk {
     pub options: u32,
     pub wanted: u64,
@@ -14,7 +14,7 @@ pub struct Desk {
 }
 
 // The answer to a call, 0 or the number of a refusal, and the desk after it.
-#[derive(Drop)]
+#[derive(Clone, Copy)]
 pub struct Done {
     pub desk: Desk,
     pub answer: u32,

@@ -19,105 +19,99 @@ fault-requires c κs = tt
 abbrev before : tie.Start → Tables
 before c = lent c.args.pos.now c.args.neg.now c.args.decided.now c.args.trues.now c.args.redundant.now
 
-returns : tie.Need-returns
+returns : tie.Need-returns-then-fault
 unfolding answer_of
 returns c =
-    let start = c.before.before.before.before.before.before.before.before in
-    tables_refused _ _ (assumptions_of start.args.o) start.args.allowance (before start) _ (sym c.before.fault.ensures ∙ c.if1.true) refl
+    tables_refused _ _ (assumptions_of c.args.o) c.args.allowance (before c.before.before.before.before.before.before.before.before) _ (sym c.fault.ensures ∙ c.if-fault.true) refl
 
 -- they are permitted
-pass : (c : tie.Else1) → tables_fault (lengths (before c.before.before.before.before.before.before.before.before)) ≡ false
-pass c = sym c.before.fault.ensures ∙ c.if1.false
+pass : (c : tie.Else-fault) → tables_fault (lengths (before c.before.before.before.before.before.before.before.before)) ≡ false
+pass c = sym c.fault.ensures ∙ c.if-fault.false
 
-slice-aggregate-decide : tie.Need-slice-aggregate-decide
+slice-aggregate-decide : tie.Need-slice_bounds-decide-end
 slice-aggregate-decide c = search rules
 
-slice-aggregate-decide-2 : tie.Need-slice-aggregate-decide-2
+slice-aggregate-decide-2 : tie.Need-slice_bounds-decide-end-2
 slice-aggregate-decide-2 c = search rules
 
-decide-requires : tie.Need-decide-requires
+decide-requires : tie.Need-decide-done-requires
 decide-requires c κs =
-    let e = c.before.before.before in
     record {
-      workable = e.before.before.before.before.before.before.before.before.requires;
-      places_few = (passing _ (pass e)).few;
+      workable = c.requires;
+      places_few = (passing _ (pass c.before.before.before)).few;
       tally_room = search rules;
       list_room = search rules;
     }
 
-tally-of-requires : tie.Need-tally-of-requires
+tally-of-requires : tie.Need-tally_of-tally-requires
 tally-of-requires c κs = tt
 
-slice-aggregate-hand-out : tie.Need-slice-aggregate-hand-out
+slice-aggregate-hand-out : tie.Need-slice_bounds-hand_out-end
 slice-aggregate-hand-out c = search rules
 
-hand-out-requires : tie.Need-hand-out-requires
+hand-out-requires : tie.Need-hand_out-requires
 hand-out-requires c κs =
-    let q = c.before.before.before.before.before.before.before.before.before.before.before.before.decide in
-    let e = c.before.before.before.before.before.before.before.before.before.before.before.before.before.before.before.before in
-    let start = c.before.before.before.before.before.before.before.before.before.before.before.before.before.before.before.before.before.before.before.before.before.before.before.before in
-    let x = start.args in
+    let q = c.decide-done in
+    let x = c.args in
     fitting
     x.b
     (assumptions_of x.o)
     x.t.now
-    start.requires
+    c.requires
     x.allowance
-    (before start)
-    (passing _ (pass e))
+    (before c.before.before.before.before.before.before.before.before.before.before.before.before.before.before.before.before.before.before.before.before.before.before.before)
+    (passing _ (pass c.before.before.before.before.before.before.before.before.before.before.before.before.before.before.before))
     q.result
-    q.new.1.1.1.1.0
-    q.new.1.1.1.1.1.1.0
+    q.new.t
+    q.new.rs
     q.ensures
-    q.auto.1.1.1.1.0
-    (omega (arith, q.auto.1.1.1.1.1.1.0))
-    c.before.before.before.before.before.before.before.tally-of.result
-    c.before.before.before.before.before.before.before.tally-of.ensures
+    q.auto.t
+    (omega (arith, q.auto.rs))
+    c.tally_of-tally.result
+    c.tally_of-tally.ensures
 
-same_length : tie.Need-same-length
-same_length c = c.before.before.before.before.before.before.before.before.before.before.before.before.before.before.before.before.before.before.before.before.before.before.before.decide.auto.1.1.1.1.0
+same_length : tie.Need-shape_of-t
+same_length c = c.decide-done.auto.t
 
-same-length-2 : tie.Need-same-length-2
-same-length-2 c = c.before.before.before.before.before.before.before.before.before.before.hand-out.auto.1.1.1.1.0
+same-length-2 : tie.Need-shape_of-pos
+same-length-2 c = c.hand_out.auto.pos
 
-same-length-3 : tie.Need-same-length-3
-same-length-3 c = c.before.before.before.before.before.before.before.before.before.before.hand-out.auto.1.1.1.1.1.0
+same-length-3 : tie.Need-shape_of-neg
+same-length-3 c = c.hand_out.auto.neg
 
-same-length-4 : tie.Need-same-length-4
-same-length-4 c = c.before.before.before.before.before.before.before.before.before.before.hand-out.auto.1.1.1.1.1.1.0
+same-length-4 : tie.Need-shape_of-decided
+same-length-4 c = c.hand_out.auto.decided
 
-same-length-5 : tie.Need-same-length-5
-same-length-5 c = c.before.before.before.before.before.before.before.before.before.before.hand-out.auto.1.1.1.1.1.1.1.0
+same-length-5 : tie.Need-shape_of-trues
+same-length-5 c = c.hand_out.auto.trues
 
-same-length-6 : tie.Need-same-length-6
-same-length-6 c = c.before.before.before.before.before.before.before.before.before.before.hand-out.auto.1.1.1.1.1.1.1.1.0
+same-length-6 : tie.Need-shape_of-redundant
+same-length-6 c = c.hand_out.auto.redundant
 
-returns-2 : tie.Need-returns-2
+returns-2 : tie.Need-returns
 returns-2 c =
-    let q = c.before.before.before.before.before.before.before.before.before.before.before.before.before.before.before.before.before.before.before.before.before.before.before.decide in
-    let e = c.before.before.before.before.before.before.before.before.before.before.before.before.before.before.before.before.before.before.before.before.before.before.before.before.before.before.before in
-    let start = c.before.before.before.before.before.before.before.before.before.before.before.before.before.before.before.before.before.before.before.before.before.before.before.before.before.before.before.before.before.before.before.before.before.before.before in
-    let x = start.args in
+    let q = c.decide-done in
+    let x = c.args in
     handed_out
     x.b
     (assumptions_of x.o)
     x.t.now
-    start.requires
+    c.requires
     x.allowance
-    (before start)
-    (passing _ (pass e))
+    (before c.before.before.before.before.before.before.before.before.before.before.before.before.before.before.before.before.before.before.before.before.before.before.before.before.before.before.before.before.before.before.before.before.before.before)
+    (passing _ (pass c.before.before.before.before.before.before.before.before.before.before.before.before.before.before.before.before.before.before.before.before.before.before.before.before.before.before))
     q.result
-    q.new.1.1.1.1.0
-    q.new.1.1.1.1.1.1.0
+    q.new.t
+    q.new.rs
     q.ensures
-    c.before.before.before.before.before.before.before.before.before.before.before.before.before.before.before.before.before.before.tally-of.result
-    c.before.before.before.before.before.before.before.before.before.before.before.before.before.before.before.before.before.before.tally-of.ensures
+    c.tally_of-tally.result
+    c.tally_of-tally.ensures
     _
-    (pass e)
-    c.before.before.before.before.before.before.before.before.before.before.hand-out.ensures
+    (pass c.before.before.before.before.before.before.before.before.before.before.before.before.before.before.before.before.before.before.before.before.before.before.before.before.before.before)
+    c.hand_out.ensures
 
-pub run-book-spec : {M : Type 1} → statement M
-run-book-spec =
+pub run_book_spec : {M : Type 1} → statement M
+run_book_spec =
     tie.close
     (tie.spec
     fault-requires

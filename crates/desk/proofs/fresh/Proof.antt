@@ -9,14 +9,14 @@ use Rattle.desk.proofs.fresh.Tie as tie
 empty-requires : tie.Need-empty-requires
 empty-requires c κs = search rules
 
-returns : tie.Need-returns
-returns c = ap (λ (d : Desk). done_of d 2) c.empty.ensures ∙ sym (fresh_many c.before.before.args.options c.before.if1.true)
+returns : tie.Need-returns-then-options-gt-MAX_VARS
+returns c = ap (λ (d : Desk). done_of d 2) c.empty.ensures ∙ sym (fresh_many c.args.options c.if-options-gt-MAX_VARS.true)
 
 empty-requires-2 : tie.Need-empty-requires-2
 empty-requires-2 c κs = search rules
 
-returns-2 : tie.Need-returns-2
-returns-2 c = ap (λ (d : Desk). done_of d 0) c.empty2.ensures ∙ sym (fresh_few c.before.before.args.options c.before.if1.false)
+returns-2 : tie.Need-returns
+returns-2 c = ap (λ (d : Desk). done_of d 0) c.empty-2.ensures ∙ sym (fresh_few c.args.options c.if-options-gt-MAX_VARS.false)
 
-pub fresh-spec : {M : Type 1} → statement M
-fresh-spec = tie.close (tie.spec empty-requires returns empty-requires-2 returns-2)
+pub fresh_spec : {M : Type 1} → statement M
+fresh_spec = tie.close (tie.spec empty-requires returns empty-requires-2 returns-2)

@@ -12,48 +12,47 @@ use Rattle.joining.proofs.Joined.{held, first_refused, first_read}
 use Rattle.joining.proofs.join.Statement.{statement}
 use Rattle.joining.proofs.join.Tie as tie
 
-slice-aggregate-from-bytes : tie.Need-slice-aggregate-from-bytes
+slice-aggregate-from-bytes : tie.Need-slice_bounds-from_bytes-end
 slice-aggregate-from-bytes c = search rules
 
-from-bytes-requires : tie.Need-from-bytes-requires
+from-bytes-requires : tie.Need-from_bytes-read-requires
 from-bytes-requires c κs = search rules
 
-enum-known-read : tie.Need-enum-known-read
+enum-known-read : tie.Need-enum_known-read
 enum-known-read c = search rules
 
-enum-known-read-2 : tie.Need-enum-known-read-2
+enum-known-read-2 : tie.Need-enum_known-read-in-Book-1
 enum-known-read-2 c = search rules
 
-slice-aggregate-join-to : tie.Need-slice-aggregate-join-to
+slice-aggregate-join-to : tie.Need-slice_bounds-join_to-end
 slice-aggregate-join-to c = search rules
 
 -- the first book was read
-module _ (c : tie.After-join-to-arg) where
+module _ (c : tie.After-join_to-arg-1) where
   abbrev a : Book
-  a = c.before.before.before.read2.given.0.0
+  a = c.in-Book.a
 
   abbrev t : List ℕ
-  t = c.before.before.before.before.before.before.from_bytes.new.1.0
+  t = c.from_bytes-read.new.t
 
-  is-book : book a.vars (clauses t a.clauses) ≡ read c.before.before.before.before.before.before.before.before.before.before.before.before.args.first.now
-  is-book = ap (λ x. reading_of x t) (sym c.before.before.before.read2.given.1) ∙ c.before.before.before.before.before.before.from_bytes.ensures
+  is-book : book a.vars (clauses t a.clauses) ≡ read c.args.first.now
+  is-book = ap (λ x. reading_of x t) (sym c.in-Book.is) ∙ c.from_bytes-read.ensures
 
-join-to-requires : tie.Need-join-to-requires
-join-to-requires c κs = held _ (a c) (t c) (omega (arith, c.before.before.before.before.before.before.from_bytes.auto.1.0)) (is-book c)
+join-to-requires : tie.Need-join_to-requires
+join-to-requires c κs = held _ (a c) (t c) (omega (arith, c.from_bytes-read.auto.t)) (is-book c)
 
-returns : tie.Need-returns
+returns : tie.Need-returns-in-Refused
 returns c =
-    let read = c.before.before.before.before in
-    first_refused _ _ _ _ _ (ap (λ x. reading_of x read.from_bytes.new.1.0) (sym c.before.read.given.1) ∙ read.from_bytes.ensures)
+    first_refused _ _ _ _ _ (ap (λ x. reading_of x c.from_bytes-read.new.t) (sym c.in-Refused.is) ∙ c.from_bytes-read.ensures)
 
-same_length : tie.Need-same-length
+same_length : tie.Need-shape_of-out
 same_length c = search rules
 
-returns-2 : tie.Need-returns-2
-returns-2 c = let arg = c.before.before.before.before in first_read _ _ _ _ (a arg) (t arg) _ _ (is-book arg) c.before.before.before.join-to.ensures
+returns-2 : tie.Need-returns-in-Book
+returns-2 c = first_read _ _ _ _ (a c.before.before.before.before) (t c.before.before.before.before) _ _ (is-book c.before.before.before.before) c.join_to.ensures
 
-pub join-spec : {M : Type 1} → statement M
-join-spec =
+pub join_spec : {M : Type 1} → statement M
+join_spec =
     tie.close
     (tie.spec
     slice-aggregate-from-bytes

@@ -17,95 +17,87 @@ use Rattle.joining.proofs.join_books.Tie as tie
 judge-requires : tie.Need-judge-requires
 judge-requires c κs = search rules
 
-enum-known-paired : tie.Need-enum-known-paired
+enum-known-paired : tie.Need-enum_known-paired
 enum-known-paired c = search rules
 
-enum_told : tie.Need-enum-told
+enum_told : tie.Need-enum_told-1
 enum_told c = search rules
 
-returns : tie.Need-returns
+returns : tie.Need-returns-in_default
 returns c =
-    let start = c.before.before.before.before.before.before.before in
-    books_fault _ _ _ _ _ start.requires.0 start.requires.1 _ _ (sym c.enum_told.given.1 ∙ c.before.before.judge.ensures)
+    books_fault _ _ _ _ _ c.requires.0 c.requires.1 _ _ (sym c.in_default.is ∙ c.judge.ensures)
 
-sizes-requires : tie.Need-sizes-requires
-sizes-requires c κs = let start = c.before.before.before.before.before.before.before.before in (small _ _ start.requires.0, small _ _ start.requires.1)
+sizes-requires : tie.Need-sizes-joint-requires
+sizes-requires c κs = (small _ _ c.requires.0, small _ _ c.requires.1)
 
 -- the sizes are worked out
-module _ (c : tie.After-sizes) where
+module _ (c : tie.After-sizes-joint) where
   abbrev start : tie.Start
-  start = c.before.before.before.before.before.before.before.before.before
+  start = c.before.before.before.before.before.before.before
 
   -- the pairs are not at fault
   abbrev options : ℕ
-  options = c.before.before.paired.given.0.0
+  options = c.in-Options.paired
 
   passed : Options options ≡ judged_as (pairs_fault start.args.a.vars start.args.b.vars start.args.pairs.now) (pairedIn start.args.pairs.now)
-  passed = sym c.before.before.paired.given.1 ∙ c.before.before.before.before.judge.ensures
+  passed = sym c.in-Options.is ∙ c.judge.ensures
 
-too-large-requires : tie.Need-too-large-requires
+too-large-requires : tie.Need-too_large-requires
 too-large-requires c κs =
     let s = start c in
-    count_few _ _ _ _ s.args.pairs.now s.pre.0 s.pre.1 (options c) (passed c) c.sizes.result c.sizes.ensures
+    count_few _ _ _ _ s.args.pairs.now s.requires.0 s.requires.1 (options c) (passed c) c.sizes-joint.result c.sizes-joint.ensures
 
-returns-2 : tie.Need-returns-2
+returns-2 : tie.Need-returns-then-too_large
 returns-2 c =
-    let z = c.before.before in
-    let s = start z in
-    books_large _ _ _ _ _ s.pre.0 s.pre.1 (options z) (passed z) z.sizes.result z.sizes.ensures _ _ c.before.too_large.ensures c.if1.true
+    let s = start c.before.before in
+    books_large _ _ _ _ _ s.requires.0 s.requires.1 (options c.before.before) (passed c.before.before) c.sizes-joint.result c.sizes-joint.ensures _ _ c.too_large.ensures c.if-too_large.true
 
-places-requires : tie.Need-places-requires
+places-requires : tie.Need-places-places-requires
 places-requires c κs =
-    let z = c.before.before in
-    let s = start z in (
-      s.pre.0.formed.vars_few,
-      s.pre.1.formed.vars_few,
-      paired_are _ _ _ _ _ s.pre.0 s.pre.1 (options z) (passed z),
-      first_low _ _ _ _ _ s.pre.0 s.pre.1 (options z) (passed z),
+    let s = start c.before.before in (
+      s.requires.0.formed.vars_few,
+      s.requires.1.formed.vars_few,
+      paired_are _ _ _ _ _ s.requires.0 s.requires.1 (options c.before.before) (passed c.before.before),
+      first_low _ _ _ _ _ s.requires.0 s.requires.1 (options c.before.before) (passed c.before.before),
     )
 
 -- the joint book fits
-fitting : (c : tie.Else1) → Fitting c.before.before.sizes.result.vars c.before.before.sizes.result.clauses (length (start c.before.before).args.out.now)
+fitting : (c : tie.Else-too_large) → Fitting c.sizes-joint.result.vars c.sizes-joint.result.clauses (length (start c.before.before).args.out.now)
 fitting c =
-    let z = c.before.before in
-    let s = start z in
-    fit _ _ _ _ s.args.pairs.now s.pre.0 s.pre.1 (options z) (passed z) z.sizes.result z.sizes.ensures _ _ c.before.too_large.ensures c.if1.false
+    let s = start c.before.before in
+    fit _ _ _ _ s.args.pairs.now s.requires.0 s.requires.1 (options c.before.before) (passed c.before.before) c.sizes-joint.result c.sizes-joint.ensures _ _ c.too_large.ensures c.if-too_large.false
 
 append-requires : tie.Need-append-requires
 append-requires c κs =
-    let e = c.before.before.before in
-    let z = e.before.before in
-    let s = start z in
-    appendable _ _ _ _ _ s.pre.0 s.pre.1 (options z) (passed z) z.sizes.result z.sizes.ensures _ _ e.before.too_large.ensures e.if1.false _
-    c.before.before.places.ensures
+    let s = start c.before.before.before.before.before in
+    appendable _ _ _ _ _ s.requires.0 s.requires.1 (options c.before.before.before.before.before) (passed c.before.before.before.before.before) c.sizes-joint.result c.sizes-joint.ensures _ _ c.too_large.ensures c.if-too_large.false _
+    c.places-places.ensures
 
 write-requires : tie.Need-write-requires
-write-requires c κs = (fitting c.before.before.before.before.before.before.before.before, omega (arith, c.before.before.before.before.append.auto.1.1.1.1.0, (start c.before.before.before.before.before.before.before.before.before.before).pre.0.room))
+write-requires c κs = (fitting c.before.before.before.before.before.before.before, omega (arith, c.append.auto.t, (start c.before.before.before.before.before.before.before.before.before).pre.0.room))
 
-same_length : tie.Need-same-length
+same_length : tie.Need-shape_of-t
 same_length c = search rules
 
-same-length-2 : tie.Need-same-length-2
+same-length-2 : tie.Need-shape_of-out
 same-length-2 c = search rules
 
-returns-3 : tie.Need-returns-3
+returns-3 : tie.Need-returns
 returns-3 c =
-    let e = c.before.before.before.before.before.before.before.before.before.before.before in
-    let z = e.before.before in
-    let s = start z in
-    books_written _ _ _ _ _ s.pre.0 s.pre.1 (options z) (passed z) z.sizes.result z.sizes.ensures _ _ e.before.too_large.ensures e.if1.false
-    c.before.before.before.before.before.before.before.before.before.before.places.result
-    c.before.before.before.before.before.before.before.before.before.before.places.ensures
+    let s = start c.before.before.before.before.before.before.before.before.before.before.before.before in
+    books_written _ _ _ _ _ s.requires.0 s.requires.1 (options c.before.before.before.before.before.before.before.before.before.before.before.before) (passed c.before.before.before.before.before.before.before.before.before.before.before.before) c.sizes-joint.result c.sizes-joint.ensures _ _ c.too_large.ensures c.if-too_large.false
+    c.places-places.result
+    c.places-places.ensures
     _
     _
     _
     _
     refl
-    c.before.before.before.before.before.before.before.append.ensures
-    c.before.before.write.ensures
+    c.append.ensures
+    c.write.ensures
 
-pub join-books-spec : {M : Type 1} → statement M
-join-books-spec =
+pub join_books_spec : {M : Type 1} → statement M
+join_books_spec =
     tie.close
     (tie.spec
     judge-requires

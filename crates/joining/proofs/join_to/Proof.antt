@@ -12,51 +12,50 @@ use Rattle.joining.proofs.Joined.{held, second_refused, second_read}
 use Rattle.joining.proofs.join_to.Statement.{statement}
 use Rattle.joining.proofs.join_to.Tie as tie
 
-slice-aggregate-from-bytes : tie.Need-slice-aggregate-from-bytes
+slice-aggregate-from-bytes : tie.Need-slice_bounds-from_bytes-end
 slice-aggregate-from-bytes c = search rules
 
-from-bytes-requires : tie.Need-from-bytes-requires
+from-bytes-requires : tie.Need-from_bytes-read-requires
 from-bytes-requires c κs = search rules
 
-enum-known-read : tie.Need-enum-known-read
+enum-known-read : tie.Need-enum_known-read
 enum-known-read c = search rules
 
-enum-known-read-2 : tie.Need-enum-known-read-2
+enum-known-read-2 : tie.Need-enum_known-read-in-Book-1
 enum-known-read-2 c = search rules
 
-slice-aggregate-join-books : tie.Need-slice-aggregate-join-books
+slice-aggregate-join-books : tie.Need-slice_bounds-join_books-end
 slice-aggregate-join-books c = search rules
 
 -- the second book was read
-module _ (c : tie.After-join-books-arg2) where
+module _ (c : tie.After-join_books-arg-in-Book-1) where
   abbrev b : Book
-  b = c.before.before.before.before.read2.given.0.0
+  b = c.in-Book.b
 
   abbrev u : List ℕ
-  u = c.before.before.before.before.before.before.before.from_bytes.new.1.0
+  u = c.from_bytes-read.new.t
 
-  is-book : book b.vars (clauses u b.clauses) ≡ read c.before.before.before.before.before.before.before.before.before.before.before.before.before.args.second.now
-  is-book = ap (λ x. reading_of x u) (sym c.before.before.before.before.read2.given.1) ∙ c.before.before.before.before.before.before.before.from_bytes.ensures
+  is-book : book b.vars (clauses u b.clauses) ≡ read c.args.second.now
+  is-book = ap (λ x. reading_of x u) (sym c.in-Book.is) ∙ c.from_bytes-read.ensures
 
-join-books-requires : tie.Need-join-books-requires
-join-books-requires c κs = (c.before.before.before.before.before.before.before.before.before.before.before.before.before.requires, held _ (b c) (u c) (omega (arith, c.before.before.before.before.before.before.before.from_bytes.auto.1.0)) (is-book c))
+join-books-requires : tie.Need-join_books-requires
+join-books-requires c κs = (c.requires, held _ (b c) (u c) (omega (arith, c.from_bytes-read.auto.t)) (is-book c))
 
-returns : tie.Need-returns
+returns : tie.Need-returns-in-Refused
 returns c =
-    let read = c.before.before.before.before in
-    second_refused _ _ _ _ _ (ap (λ x. reading_of x read.from_bytes.new.1.0) (sym c.before.read.given.1) ∙ read.from_bytes.ensures)
+    second_refused _ _ _ _ _ (ap (λ x. reading_of x c.from_bytes-read.new.t) (sym c.in-Refused.is) ∙ c.from_bytes-read.ensures)
 
-same_length : tie.Need-same-length
+same_length : tie.Need-shape_of-t
 same_length c = search rules
 
-same-length-2 : tie.Need-same-length-2
+same-length-2 : tie.Need-shape_of-out
 same-length-2 c = search rules
 
-returns-2 : tie.Need-returns-2
-returns-2 c = let arg = c.before.before.before.before.before in second_read _ _ _ _ (b arg) (u arg) _ _ (is-book arg) c.before.before.before.before.join-books.ensures
+returns-2 : tie.Need-returns-in-Book
+returns-2 c = second_read _ _ _ _ (b c.before.before.before.before.before) (u c.before.before.before.before.before) _ _ (is-book c.before.before.before.before.before) c.join_books.ensures
 
-pub join-to-spec : {M : Type 1} → statement M
-join-to-spec =
+pub join_to_spec : {M : Type 1} → statement M
+join_to_spec =
     tie.close
     (tie.spec
     slice-aggregate-from-bytes

@@ -8,38 +8,35 @@ use Rattle.joining.proofs.Joined.{unpaired_count}
 use Rattle.joining.proofs.sizes.Statement.{statement}
 use Rattle.joining.proofs.sizes.Tie as tie
 
-first-of-requires : tie.Need-first-of-requires
+first-of-requires : tie.Need-first_of-requires
 first-of-requires c κs = search rules
 
 minus-requires : tie.Need-minus-requires
 minus-requires c κs = search rules
 
-count-of-requires : tie.Need-count-of-requires
+count-of-requires : tie.Need-count_of-requires
 count-of-requires c κs = search rules
 
-add-t7 : tie.Need-overflow-add-t7
+add-t7 : tie.Need-overflow_add-result
 add-t7 c =
-    let counted = c.before in
     omega (
       arith,
-      counted.before.before.before.requires.0.vars,
-      few_before _ _ _ _ _ counted.before.before.first_of.ensures counted.before.minus.ensures counted.count_of.ensures,
+      c.requires.0.vars,
+      few_before _ _ _ _ _ c.first_of.ensures c.minus.ensures c.count_of.ensures,
     )
 
-add-t8 : tie.Need-overflow-add-t8
+add-t8 : tie.Need-overflow_add-result-2
 add-t8 c = search rules
 
 returns : tie.Need-returns
 returns c =
-    let counted = c.before.before.before in
-    let start = counted.before.before.before in
     record {
       vars =
-          ap (λ k. start.args.a.vars + k)
-          (unpaired_count _ _ _ _ _ start.requires.1.vars counted.before.before.first_of.ensures counted.before.minus.ensures counted.count_of.ensures);
+          ap (λ k. c.args.a.vars + k)
+          (unpaired_count _ _ _ _ _ c.requires.1.vars c.first_of.ensures c.minus.ensures c.count_of.ensures);
       clauses = refl;
     }
 
-pub sizes-spec : {M : Type 1} → statement M
-sizes-spec =
+pub sizes_spec : {M : Type 1} → statement M
+sizes_spec =
     tie.close (tie.spec first-of-requires minus-requires count-of-requires add-t7 add-t8 returns)

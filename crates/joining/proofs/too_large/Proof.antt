@@ -5,23 +5,23 @@ use Rattle.joint.specs.Join.{too_large}
 use Rattle.joining.proofs.too_large.Statement.{statement}
 use Rattle.joining.proofs.too_large.Tie as tie
 
-returns : tie.Need-returns
+returns : tie.Need-returns-then-joint-gt-MAX_VARS
 unfolding too_large
-returns c = rw (lt-ltb _ _ c.if1.true)
+returns c = rw (lt-ltb _ _ c.if-joint-gt-MAX_VARS.true)
 
-returns-2 : tie.Need-returns-2
+returns-2 : tie.Need-returns-then-joint-gt-MAX_CLAUSES
 unfolding too_large
-returns-2 c = rw (le-ltb _ _ c.before.before.if1.false, lt-ltb _ _ c.if2.true)
+returns-2 c = rw (le-ltb _ _ c.if-joint-gt-MAX_VARS.false, lt-ltb _ _ c.if-joint-gt-MAX_CLAUSES.true)
 
-mul-result : tie.Need-overflow-mul-result
+mul-result : tie.Need-overflow_mul-result
 mul-result c = search rules
 
-add-result : tie.Need-overflow-add-result
+add-result : tie.Need-overflow_add-result
 add-result c = search rules
 
-returns-3 : tie.Need-returns-3
+returns-3 : tie.Need-returns
 unfolding too_large
-returns-3 c = rw (le-ltb _ _ c.before.before.before.if1.false, le-ltb _ _ c.before.if2.false)
+returns-3 c = rw (le-ltb _ _ c.if-joint-gt-MAX_VARS.false, le-ltb _ _ c.if-joint-gt-MAX_CLAUSES.false)
 
-pub too-large-spec : {M : Type 1} → statement M
-too-large-spec = tie.close (tie.spec returns returns-2 mul-result add-result returns-3)
+pub too_large_spec : {M : Type 1} → statement M
+too_large_spec = tie.close (tie.spec returns returns-2 mul-result add-result returns-3)

@@ -4,33 +4,31 @@ use Rattle.playing.proofs.Played.{one_missing, one_given}
 use Rattle.playing.proofs.forced.Statement.{statement}
 use Rattle.playing.proofs.forced.Tie as tie
 
-count-of-requires : tie.Need-count-of-requires
+count-of-requires : tie.Need-count_of-requires
 count-of-requires c κs = search rules
 
 buyer-requires : tie.Need-buyer-requires
 buyer-requires c κs = search rules
 
-returns : tie.Need-returns
+returns : tie.Need-returns-then-count_of-lt2
 returns c = search rules
 
-is-given-requires : tie.Need-is-given-requires
+is-given-requires : tie.Need-is_given-requires
 is-given-requires c κs = search rules
 
-is-given-requires-2 : tie.Need-is-given-requires-2
+is-given-requires-2 : tie.Need-is_given-requires-then-is_given
 is-given-requires-2 c κs = search rules
 
-returns-2 : tie.Need-returns-2
+returns-2 : tie.Need-returns-then-is_given
 returns-2 c =
-    let counted = c.before.before.before in
-    one_given _ _ _ counted.before.count_of.result _ counted.before.count_of.ensures counted.if1.false counted.before.before.before.requires.1 _ c.before.before.is-given.ensures c.before.if2.true _ c.is-given2.ensures
+    one_given _ _ _ c.count_of.result _ c.count_of.ensures c.if-count_of-lt2.false c.requires.1 _ c.is_given.ensures c.if-is_given.true _ c.is_given-then-is_given.ensures
 
-returns-3 : tie.Need-returns-3
+returns-3 : tie.Need-returns
 returns-3 c =
-    let counted = c.before.before in
-    one_missing _ _ _ counted.before.count_of.result _ counted.before.count_of.ensures counted.if1.false counted.before.before.before.requires.1 _ c.before.is-given.ensures c.if2.false
+    one_missing _ _ _ c.count_of.result _ c.count_of.ensures c.if-count_of-lt2.false c.requires.1 _ c.is_given.ensures c.if-is_given.false
 
-pub forced-spec : {M : Type 1} → statement M
-forced-spec =
+pub forced_spec : {M : Type 1} → statement M
+forced_spec =
     tie.close
     (tie.spec
     count-of-requires

@@ -6,41 +6,35 @@ use Rattle.playing.proofs.Left.{no_response, answers_out, answers_then}
 use Rattle.playing.proofs.respond.Statement.{statement}
 use Rattle.playing.proofs.respond.Tie as tie
 
-returns : tie.Need-returns
-returns c = no_response _ _ _ c.if1.true
+returns : tie.Need-returns-then-free-eq0
+returns c = no_response _ _ _ c.if-free-eq0.true
 
-lowest-of-requires : tie.Need-lowest-of-requires
+lowest-of-requires : tie.Need-lowest_of-option-requires
 lowest-of-requires c κs = search rules
 
-rest-of-requires : tie.Need-rest-of-requires
+rest-of-requires : tie.Need-rest_of-rest-requires
 rest-of-requires c κs = search rules
 
 serves-requires : tie.Need-serves-requires
 serves-requires c κs = search rules
 
-returns-2 : tie.Need-returns-2
+returns-2 : tie.Need-returns-then-serves
 returns-2 c =
-    let asked = c.before in
-    let rest = asked.before in
-    answers_out _ rest.before.lowest-of.result _ rest.before.before.if1.false rest.before.lowest-of.ensures rest.rest_of.ensures _ _ _ asked.serves.ensures c.if2.true
+    answers_out _ c.lowest_of-option.result _ c.if-free-eq0.false c.lowest_of-option.ensures c.rest_of-rest.ensures _ _ _ c.serves.ensures c.if-serves.true
 
 serves-requires-2 : tie.Need-serves-requires-2
 serves-requires-2 c κs = search rules
 
-returns-3 : tie.Need-returns-3
+returns-3 : tie.Need-returns-then-serves-2
 returns-3 c =
-    let asked = c.before.before.before in
-    let rest = asked.before in
-    answers_then _ rest.before.lowest-of.result _ rest.before.before.if1.false rest.before.lowest-of.ensures rest.rest_of.ensures _ _ _ asked.serves.ensures c.before.before.if2.false true (sym c.if3.true ∙ c.before.serves2.ensures)
+    answers_then _ c.lowest_of-option.result _ c.if-free-eq0.false c.lowest_of-option.ensures c.rest_of-rest.ensures _ _ _ c.serves.ensures c.if-serves.false true (sym c.if-serves-2.true ∙ c.serves-2.ensures)
 
-returns-4 : tie.Need-returns-4
+returns-4 : tie.Need-returns
 returns-4 c =
-    let asked = c.before.before.before in
-    let rest = asked.before in
-    answers_then _ rest.before.lowest-of.result _ rest.before.before.if1.false rest.before.lowest-of.ensures rest.rest_of.ensures _ _ _ asked.serves.ensures c.before.before.if2.false false (sym c.if3.false ∙ c.before.serves2.ensures)
+    answers_then _ c.lowest_of-option.result _ c.if-free-eq0.false c.lowest_of-option.ensures c.rest_of-rest.ensures _ _ _ c.serves.ensures c.if-serves.false false (sym c.if-serves-2.false ∙ c.serves-2.ensures)
 
-pub respond-spec : {M : Type 1} → statement M
-respond-spec =
+pub respond_spec : {M : Type 1} → statement M
+respond_spec =
     tie.close
     (tie.spec
     returns

@@ -4,17 +4,17 @@ use Rattle.playing.proofs.Played.{tells_forced, tells_open}
 use Rattle.playing.proofs.tell.Statement.{statement}
 use Rattle.playing.proofs.tell.Tie as tie
 
-responses-requires : tie.Need-responses-requires
+responses-requires : tie.Need-responses-r-requires
 responses-requires c κs = search rules
 
 forced-requires : tie.Need-forced-requires
 forced-requires c κs = search rules
 
-returns : tie.Need-returns
-returns c = tells_forced _ _ _ _ c.before.forced.result c.before.before.responses.ensures c.before.forced.ensures c.if1.true
+returns : tie.Need-returns-then-forced
+returns c = tells_forced _ _ _ _ c.forced.result c.responses-r.ensures c.forced.ensures c.if-forced.true
 
-returns-2 : tie.Need-returns-2
-returns-2 c = tells_open _ _ _ _ c.before.forced.result c.before.before.responses.ensures c.before.forced.ensures c.if1.false
+returns-2 : tie.Need-returns
+returns-2 c = tells_open _ _ _ _ c.forced.result c.responses-r.ensures c.forced.ensures c.if-forced.false
 
-pub tell-spec : {M : Type 1} → statement M
-tell-spec = tie.close (tie.spec responses-requires forced-requires returns returns-2)
+pub tell_spec : {M : Type 1} → statement M
+tell_spec = tie.close (tie.spec responses-requires forced-requires returns returns-2)

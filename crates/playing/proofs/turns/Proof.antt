@@ -11,39 +11,38 @@ use Rattle.playing.proofs.Played.{refused_whole, played_whole}
 use Rattle.playing.proofs.turns.Statement.{statement}
 use Rattle.playing.proofs.turns.Tie as tie
 
-slice-aggregate-admit : tie.Need-slice-aggregate-admit
+slice-aggregate-admit : tie.Need-slice_bounds-admit-end
 slice-aggregate-admit c = search rules
 
-admit-requires : tie.Need-admit-requires
+admit-requires : tie.Need-admit-read-requires
 admit-requires c κs = search rules
 
-enum-known-read : tie.Need-enum-known-read
+enum-known-read : tie.Need-enum_known-read
 enum-known-read c = search rules
 
-enum-known-read-2 : tie.Need-enum-known-read-2
+enum-known-read-2 : tie.Need-enum_known-read-in-Book-1
 enum-known-read-2 c = search rules
 
-slice-aggregate-play : tie.Need-slice-aggregate-play
+slice-aggregate-play : tie.Need-slice_bounds-play-end
 slice-aggregate-play c = search rules
 
 -- the book that was admitted
-is-book : (c : tie.After-read2) → let q = c.before.before.before.admit in let x = c.before.before.before.before.before.before.args in
-    book c.read2.given.0.0.vars (clauses q.new.1.1.0 c.read2.given.0.0.clauses) ≡ admit x.book.now (order_of x.o)
-is-book c = let q = c.before.before.before.admit in ap (λ x. reading_of x q.new.1.1.0) (sym c.read2.given.1) ∙ q.ensures
+is-book : (c : tie.In-Book) → let q = c.admit-read in let x = c.args in
+    book c.in-Book.b.vars (clauses q.new.t c.in-Book.b.clauses) ≡ admit x.book.now (order_of x.o)
+is-book c = let q = c.admit-read in ap (λ x. reading_of x q.new.t) (sym c.in-Book.is) ∙ q.ensures
 
 play-requires : tie.Need-play-requires
-play-requires c κs = let read = c.before.before in held _ _ _ _ (omega (arith, read.before.before.before.admit.auto.1.1.0)) (is-book read)
+play-requires c κs = held _ _ _ _ (omega (arith, c.admit-read.auto.t)) (is-book c.before)
 
-returns : tie.Need-returns
+returns : tie.Need-returns-in-Refused
 returns c =
-    let read = c.before.before.before.before in
-    refused_whole _ _ _ (ap (λ x. reading_of x read.admit.new.1.1.0) (sym c.before.read.given.1) ∙ read.admit.ensures)
+    refused_whole _ _ _ (ap (λ x. reading_of x c.admit-read.new.t) (sym c.in-Refused.is) ∙ c.admit-read.ensures)
 
-returns-2 : tie.Need-returns-2
-returns-2 c = played_whole _ _ _ _ _ (is-book c.before.before.before) c.play.ensures
+returns-2 : tie.Need-returns-in-Book
+returns-2 c = played_whole _ _ _ _ _ (is-book c.before.before) c.play.ensures
 
-pub turns-spec : {M : Type 1} → statement M
-turns-spec =
+pub turns_spec : {M : Type 1} → statement M
+turns_spec =
     tie.close
     (tie.spec
     slice-aggregate-admit

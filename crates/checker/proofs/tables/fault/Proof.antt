@@ -5,47 +5,47 @@ use Rattle.contract.specs.Check.{tables_fault}
 use Rattle.checker.proofs.tables.fault.Statement.{statement}
 use Rattle.checker.proofs.tables.fault.Tie as tie
 
-returns : tie.Need-returns
+returns : tie.Need-returns-then-pos-neg
 unfolding tables_fault
-returns c = rw (ne_eqb c.before.args.pos c.before.args.neg c.if1.true)
+returns c = rw (ne_eqb c.args.pos c.args.neg c.if-pos-neg.true)
 
-returns-2 : tie.Need-returns-2
+returns-2 : tie.Need-returns-then-pos-gt-MAX_DERIVED
 unfolding tables_fault
 returns-2 c =
-    let a = c.before.before.args in
-    rw (eq-eqb a.pos a.neg c.before.if1.false, lt-ltb max_derived a.pos c.if2.true)
+    let a = c.args in
+    rw (eq-eqb a.pos a.neg c.if-pos-neg.false, lt-ltb max_derived a.pos c.if-pos-gt-MAX_DERIVED.true)
 
-returns-3 : tie.Need-returns-3
+returns-3 : tie.Need-returns-then-decided-lt-MIN_RECORDS
 unfolding tables_fault
 returns-3 c =
-    let a = c.before.before.before.args in
+    let a = c.args in
     rw (
-      eq-eqb a.pos a.neg c.before.before.if1.false,
-      le-ltb max_derived a.pos c.before.if2.false,
-      lt-ltb a.decided min_records c.if3.true,
+      eq-eqb a.pos a.neg c.if-pos-neg.false,
+      le-ltb max_derived a.pos c.if-pos-gt-MAX_DERIVED.false,
+      lt-ltb a.decided min_records c.if-decided-lt-MIN_RECORDS.true,
     )
 
-returns-4 : tie.Need-returns-4
+returns-4 : tie.Need-returns-then-trues-lt-MIN_RECORDS
 unfolding tables_fault
 returns-4 c =
-    let a = c.before.before.before.before.args in
+    let a = c.args in
     rw (
-      eq-eqb a.pos a.neg c.before.before.before.if1.false,
-      le-ltb max_derived a.pos c.before.before.if2.false,
-      le-ltb a.decided min_records c.before.if3.false,
-      lt-ltb a.trues min_records c.if4.true,
+      eq-eqb a.pos a.neg c.if-pos-neg.false,
+      le-ltb max_derived a.pos c.if-pos-gt-MAX_DERIVED.false,
+      le-ltb a.decided min_records c.if-decided-lt-MIN_RECORDS.false,
+      lt-ltb a.trues min_records c.if-trues-lt-MIN_RECORDS.true,
     )
 
-returns-5 : tie.Need-returns-5
+returns-5 : tie.Need-returns
 unfolding tables_fault
 returns-5 c =
-    let a = c.before.before.before.before.args in
+    let a = c.args in
     rw (
-      eq-eqb a.pos a.neg c.before.before.before.if1.false,
-      le-ltb max_derived a.pos c.before.before.if2.false,
-      le-ltb a.decided min_records c.before.if3.false,
-      le-ltb a.trues min_records c.if4.false,
+      eq-eqb a.pos a.neg c.if-pos-neg.false,
+      le-ltb max_derived a.pos c.if-pos-gt-MAX_DERIVED.false,
+      le-ltb a.decided min_records c.if-decided-lt-MIN_RECORDS.false,
+      le-ltb a.trues min_records c.if-trues-lt-MIN_RECORDS.false,
     )
 
-pub fault-spec : {M : Type 1} → statement M
-fault-spec = tie.close (tie.spec returns returns-2 returns-3 returns-4 returns-5)
+pub fault_spec : {M : Type 1} → statement M
+fault_spec = tie.close (tie.spec returns returns-2 returns-3 returns-4 returns-5)

@@ -7,22 +7,22 @@ use Rattle.joint.specs.Pairs.{option}
 use Rattle.joining.proofs.pairs.option_at.Statement.{statement}
 use Rattle.joining.proofs.pairs.option_at.Tie as tie
 
-mul-result : tie.Need-overflow-mul-result
+mul-result : tie.Need-overflow_mul-result
 mul-result c = search rules
 
-add-result : tie.Need-overflow-add-result
+add-result : tie.Need-overflow_add-result
 add-result c = search rules
 
-shared-slice-read-result : tie.Need-shared-slice-read-result
+shared-slice-read-result : tie.Need-bounds-pairs-i
 shared-slice-read-result c = search rules
 
-cast-result : tie.Need-overflow-cast-result
-cast-result c = omega (arith, c.shared-slice-known.given (2 * c.before.args.i + c.before.args.side))
+cast-result : tie.Need-overflow_cast-result
+cast-result c = omega (arith, c.shared_slice_known-1.given (2 * c.args.i + c.args.side))
 
 returns : tie.Need-returns
 unfolding option
 returns c = refl
 
-pub option-at-spec : {M : Type 1} → statement M
-option-at-spec =
+pub option_at_spec : {M : Type 1} → statement M
+option_at_spec =
     tie.close (tie.spec mul-result add-result shared-slice-read-result cast-result returns)

@@ -10,52 +10,49 @@ use Rattle.joining.proofs.Judged.{partner_none, partner_here, partner_later, par
 use Rattle.joining.proofs.pairs.partner_or.Statement.{statement}
 use Rattle.joining.proofs.pairs.partner_or.Tie as tie
 
-abbrev invariant-loop : tie.invariant-loop
+abbrev invariant-loop : tie.invariant-loop-i
 invariant-loop d pairs k count at₀ i₀ at i = (i ≤ pair_count pairs) × (at ≡ partner_or d pairs i k)
 
-abbrev decreases-loop : tie.decreases-loop
+abbrev decreases-loop : tie.decreases-loop-i
 decreases-loop d pairs k count at₀ i₀ at i = pair_count pairs - i
 
-loop-holds : tie.Need-loop-init invariant-loop decreases-loop
+loop-holds : tie.Need-loop-i-init invariant-loop decreases-loop
 loop-holds c = (omega arith, partner_none _ _ _)
 
-option-at-requires : tie.Need-option-at-requires invariant-loop decreases-loop
+option-at-requires : tie.Need-option_at-requires invariant-loop decreases-loop
 option-at-requires c κs = search rules
 
-add-if1 : tie.Need-overflow-add-if1 invariant-loop decreases-loop
+add-if1 : tie.Need-overflow_add-k invariant-loop decreases-loop
 add-if1 c = search rules
 
-option-at-requires-2 : tie.Need-option-at-requires-2 invariant-loop decreases-loop
+option-at-requires-2 : tie.Need-option_at-at-requires invariant-loop decreases-loop
 option-at-requires-2 c κs = search rules
 
-sub_at : tie.Need-overflow-sub-at invariant-loop decreases-loop
+sub_at : tie.Need-overflow_sub-at invariant-loop decreases-loop
 sub_at c =
-    let start = c.before.before.before.before.before.before in
-    omega (arith, c.option-at2.ensures, start.requires.1 c.before.before.before.before.loop.i c.before.before.before.loop-test.true)
+    omega (arith, c.option_at-at.ensures, c.requires.1 c.loop-i.i c.loop-i-test.true)
 
-add-i : tie.Need-overflow-add-i invariant-loop decreases-loop
+add-i : tie.Need-overflow_add-i invariant-loop decreases-loop
 add-i c = search rules
 
-loop-less : tie.Need-loop-smaller invariant-loop decreases-loop
+loop-less : tie.Need-loop-i-smaller invariant-loop decreases-loop
 loop-less c = omega arith
 
-loop-again : tie.Need-loop-preserved invariant-loop decreases-loop
-loop-again c =
-    let option = c.before in
-    let at = option.before.before in (
-      omega (arith, option.before.loop-test.true),
-      ⊎_elim (λ w. w.2 ∙ partner_here _ _ _ _ _ _ option.option-at.ensures w.1.ensures w.0.taken)
-          (λ w. w.1 ∙ partner_later _ _ _ _ _ _ option.option-at.ensures w.0.left at.loop.invariant.1)
-          c.if1.branch,
-    )
+loop-again : tie.Need-loop-i-preserved invariant-loop decreases-loop
+loop-again c = (
+  omega (arith, c.loop-i-test.true),
+  ⊎_elim (λ w. w.2 ∙ partner_here _ _ _ _ _ _ c.option_at.ensures w.1.ensures w.0.taken)
+      (λ w. w.1 ∙ partner_later _ _ _ _ _ _ c.option_at.ensures w.0.left c.loop-i.invariant.1)
+      c.if-option_at-k.branch,
+)
 
 returns : tie.Need-returns invariant-loop decreases-loop
 returns c =
-    let all : c.before.loop.i ≡ pair_count c.before.before.before.args.pairs.now = omega (arith, c.before.loop.invariant.0, c.loop-test.false) in
-    partner_end _ _ _ _ _ _ all c.before.loop.invariant.1
+    let all : c.loop-i.i ≡ pair_count c.args.pairs.now = omega (arith, c.loop-i.invariant.0, c.loop-i-test.false) in
+    partner_end _ _ _ _ _ _ all c.loop-i.invariant.1
 
-pub partner-or-spec : {M : Type 1} → statement M
-partner-or-spec =
+pub partner_or_spec : {M : Type 1} → statement M
+partner_or_spec =
     tie.close
     (tie.spec
     invariant-loop

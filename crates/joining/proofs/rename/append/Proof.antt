@@ -14,73 +14,69 @@ use Rattle.joining.proofs.Renamed.{coming, append_begin, append_turn, append_end
 use Rattle.joining.proofs.rename.append.Statement.{statement}
 use Rattle.joining.proofs.rename.append.Tie as tie
 
-abbrev invariant-loop : tie.invariant-loop
+abbrev invariant-loop : tie.invariant-loop-i
 invariant-loop clauses count places u t₀ i₀ t i =
     (i ≤ count) × (length t ≡ length t₀) ×
     (Clauses t (clauses + i) ++ coming (place_in places) u count i ≡ Clauses t₀ clauses ++ map (renamed (place_in places) 64) (Clauses u count))
 
-abbrev decreases-loop : tie.decreases-loop
+abbrev decreases-loop : tie.decreases-loop-i
 decreases-loop clauses count places u t₀ i₀ t i = count - i
 
-loop-holds : tie.Need-loop-init invariant-loop decreases-loop
+loop-holds : tie.Need-loop-i-init invariant-loop decreases-loop
 loop-holds c = (omega arith, refl, append_begin _ _ _ _ _)
 
 -- a turn, and the start, as they are where a clause is put
-abbrev at : tie.After-put-arg invariant-loop decreases-loop → tie.At-loop invariant-loop decreases-loop
+abbrev at : tie.After-put-arg-1 invariant-loop decreases-loop → tie.At-loop-i invariant-loop decreases-loop
 at c = c.before.before.before.before
 
-abbrev start : tie.After-put-arg invariant-loop decreases-loop → tie.Start invariant-loop decreases-loop
+abbrev start : tie.After-put-arg-1 invariant-loop decreases-loop → tie.Start invariant-loop decreases-loop
 start c = (at c).before.before.before
 
-clause-at-requires : tie.Need-clause-at-requires invariant-loop decreases-loop
-clause-at-requires c κs = omega (arith, c.before.before.before.before.requires.from, c.loop-test.true)
+clause-at-requires : tie.Need-clause_at-requires invariant-loop decreases-loop
+clause-at-requires c κs = omega (arith, c.requires.from, c.loop-i-test.true)
 
-clause-in-requires : tie.Need-clause-in-requires invariant-loop decreases-loop
+clause-in-requires : tie.Need-clause_in-c-requires invariant-loop decreases-loop
 clause-in-requires c κs =
-    let start = c.before.before.before.before.before in
-    subst⁻¹ (PlaceableClause start.args.places.now) c.clause-at.ensures (start.requires.placeable _ (clause_among _ _ _ c.before.loop-test.true))
+    subst⁻¹ (PlaceableClause c.args.places.now) c.clause_at.ensures (c.requires.placeable _ (clause_among _ _ _ c.loop-i-test.true))
 
 -- there is room for one clause more
-room : (c : tie.After-put-arg invariant-loop decreases-loop) → clause_words ((start c).args.clauses + (at c).loop.i + 1) ≤ length (at c).loop.t
-room c = omega (arith, (start c).requires.room, c.before.before.before.loop-test.true, (at c).loop.invariant.1)
+room : (c : tie.After-put-arg-1 invariant-loop decreases-loop) → clause_words ((start c).args.clauses + (at c).loop-i.i + 1) ≤ length (at c).loop-i.t
+room c = omega (arith, (start c).requires.room, c.loop-i-test.true, (at c).loop-i.invariant.1)
 
-add-put : tie.Need-overflow-add-put invariant-loop decreases-loop
-add-put c = omega (arith, c.before.before.before.before.before.before.before.requires.room, c.before.before.before.loop-test.true)
+add-put : tie.Need-overflow_add-clauses invariant-loop decreases-loop
+add-put c = omega (arith, c.requires.room, c.loop-i-test.true)
 
 put-requires : tie.Need-put-requires invariant-loop decreases-loop
 put-requires c κs = room c
 
-add-i : tie.Need-overflow-add-i invariant-loop decreases-loop
+add-i : tie.Need-overflow_add-i invariant-loop decreases-loop
 add-i c = search rules
 
-loop-less : tie.Need-loop-smaller invariant-loop decreases-loop
+loop-less : tie.Need-loop-i-smaller invariant-loop decreases-loop
 loop-less c = omega arith
 
-loop-again : tie.Need-loop-preserved invariant-loop decreases-loop
+loop-again : tie.Need-loop-i-preserved invariant-loop decreases-loop
 loop-again c =
-    let put = c.before.before in
-    let arg = put.before in
-    let placed = arg.before.clause-in.ensures ∙ ap (renamed (place_in (start arg).args.places.now) 64) arg.before.before.clause-at.ensures in (
-      omega (arith, arg.before.before.before.loop-test.true),
-      ap length put.put.ensures ∙ put_clause_length _ _ _ ∙ (at arg).loop.invariant.1,
-      append_turn (place_in (start arg).args.places.now) (start arg).args.u.now (start arg).args.count _ _ (start arg).args.clauses (at arg).loop.i _
-          arg.before.before.before.loop-test.true
-          (room arg)
+    let placed = c.clause_in-c.ensures ∙ ap (renamed (place_in (start c.before.before.before).args.places.now) 64) c.clause_at.ensures in (
+      omega (arith, c.loop-i-test.true),
+      ap length c.put.ensures ∙ put_clause_length _ _ _ ∙ (at c.before.before.before).loop-i.invariant.1,
+      append_turn (place_in (start c.before.before.before).args.places.now) (start c.before.before.before).args.u.now (start c.before.before.before).args.count _ _ (start c.before.before.before).args.clauses (at c.before.before.before).loop-i.i _
+          c.loop-i-test.true
+          (room c.before.before.before)
           placed
-          put.put.ensures
-          ∙ (at arg).loop.invariant.2,
+          c.put.ensures
+          ∙ (at c.before.before.before).loop-i.invariant.2,
     )
 
-same_length : tie.Need-same-length invariant-loop decreases-loop
-same_length c = c.before.loop.invariant.1
+same_length : tie.Need-shape_of-t invariant-loop decreases-loop
+same_length c = c.loop-i.invariant.1
 
 returns : tie.Need-returns invariant-loop decreases-loop
 returns c =
-    let start = c.before.before.before.before in
-    append_end (place_in start.args.places.now) start.args.u.now start.args.count _ start.args.clauses c.before.loop.i _ c.before.loop.invariant.0 c.loop-test.false c.before.loop.invariant.2
+    append_end (place_in c.args.places.now) c.args.u.now c.args.count _ c.args.clauses c.loop-i.i _ c.loop-i.invariant.0 c.loop-i-test.false c.loop-i.invariant.2
 
-pub append-spec : {M : Type 1} → statement M
-append-spec =
+pub append_spec : {M : Type 1} → statement M
+append_spec =
     tie.close
     (tie.spec
     invariant-loop

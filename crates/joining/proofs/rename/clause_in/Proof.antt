@@ -4,15 +4,15 @@ use Rattle.renaming.specs.Renaming.{renamed}
 use Rattle.joining.proofs.rename.clause_in.Statement.{statement}
 use Rattle.joining.proofs.rename.clause_in.Tie as tie
 
-word-in-requires : tie.Need-word-in-requires
+word-in-requires : tie.Need-word_in-requires
 word-in-requires c κs = search rules
 
-word-in-requires-2 : tie.Need-word-in-requires-2
+word-in-requires-2 : tie.Need-word_in-requires-2
 word-in-requires-2 c κs = search rules
 
 returns : tie.Need-returns
 unfolding renamed
-returns c = cc (c.before.word_in.ensures, c.word-in2.ensures)
+returns c = cc (c.word_in.ensures, c.word_in-2.ensures)
 
-pub clause-in-spec : {M : Type 1} → statement M
-clause-in-spec = tie.close (tie.spec word-in-requires word-in-requires-2 returns)
+pub clause_in_spec : {M : Type 1} → statement M
+clause_in_spec = tie.close (tie.spec word-in-requires word-in-requires-2 returns)

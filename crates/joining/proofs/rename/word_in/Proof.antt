@@ -15,74 +15,72 @@ use Rattle.joining.proofs.Renamed.{lowest_member, lowest_below, word_begin, word
 use Rattle.joining.proofs.rename.word_in.Statement.{statement}
 use Rattle.joining.proofs.rename.word_in.Tie as tie
 
-abbrev invariant-loop : tie.invariant-loop
+abbrev invariant-loop : tie.invariant-loop-rest
 invariant-loop word places out₀ rest₀ out rest = (bit_or out (image (place_in places) 64 rest) ≡ image (place_in places) 64 word) × Within rest word × (rest < 2 ^ 64)
 
-abbrev decreases-loop : tie.decreases-loop
+abbrev decreases-loop : tie.decreases-loop-rest
 decreases-loop word places out₀ rest₀ out rest = rest
 
-loop-holds : tie.Need-loop-init invariant-loop decreases-loop
+loop-holds : tie.Need-loop-rest-init invariant-loop decreases-loop
 loop-holds c = (word_begin _ _, λ k h. h, c.ranges.word.fits)
 
-lowest-var-requires : tie.Need-lowest-var-requires invariant-loop decreases-loop
+lowest-var-requires : tie.Need-lowest_var-k-requires invariant-loop decreases-loop
 lowest-var-requires c κs = tt
 
-cast-k : tie.Need-overflow-cast-k invariant-loop decreases-loop
+cast-k : tie.Need-overflow_cast-k invariant-loop decreases-loop
 cast-k c = search rules
 
 -- the lowest of the members that are left
-module _ (c : tie.After-lowest-var invariant-loop decreases-loop) where
-  abbrev at : tie.At-loop invariant-loop decreases-loop
+module _ (c : tie.After-lowest_var-k invariant-loop decreases-loop) where
+  abbrev at : tie.At-loop-rest invariant-loop decreases-loop
   at = c.before.before
 
-  some : is_zero at.loop.rest ≡ false
-  some = nonzero _ c.before.loop-test.true
+  some : is_zero at.loop-rest.rest ≡ false
+  some = nonzero _ c.loop-rest-test.true
 
-  below : c.lowest-var.result < 64
-  below = lowest_below at.loop.rest _ some at.loop.inv.2 c.lowest-var.ensures
+  below : c.lowest_var-k.result < 64
+  below = lowest_below at.loop-rest.rest _ some at.loop-rest.invariant.2 c.lowest_var-k.ensures
 
-  member : has at.loop.rest c.lowest-var.result ≡ true
-  member = lowest_member at.loop.rest _ some at.loop.inv.2 c.lowest-var.ensures
+  member : has at.loop-rest.rest c.lowest_var-k.result ≡ true
+  member = lowest_member at.loop-rest.rest _ some at.loop-rest.invariant.2 c.lowest_var-k.ensures
 
-mul-word-of : tie.Need-overflow-mul-word-of invariant-loop decreases-loop
+mul-word-of : tie.Need-offset_bounds-places-k invariant-loop decreases-loop
 mul-word-of c = omega (arith, below c)
 
-element-copy-out-word-of : tie.Need-element-copy-out-word-of invariant-loop decreases-loop
-element-copy-out-word-of c = below c
+element-copy-out-word-of : tie.Need-bounds-places-k invariant-loop decreases-loop
+element-copy-out-word-of c = below c.before
 
-word-of-requires : tie.Need-word-of-requires invariant-loop decreases-loop
+word-of-requires : tie.Need-word_of-out-requires invariant-loop decreases-loop
 word-of-requires c κs =
-    let low = c.before in
-    (at low).before.requires _ ((at low).loop.invariant.1 _ (member low))
+    (at c.before.before).requires _ ((at c.before.before).loop-rest.invariant.1 _ (member c.before.before))
 
-rest-of-requires : tie.Need-rest-of-requires invariant-loop decreases-loop
-rest-of-requires c κs = omega (arith, c.before.before.before.loop-test.true)
+rest-of-requires : tie.Need-rest_of-rest-requires invariant-loop decreases-loop
+rest-of-requires c κs = omega (arith, c.loop-rest-test.true)
 
 -- there are fewer members left
-less : (c : tie.After-rest-of invariant-loop decreases-loop) → c.rest_of.result < (at c.before.before.before).loop.rest
-less c = let low = c.before.before.before in rw c.rest_of.ensures (rest_lt _ (some low))
+less : (c : tie.After-rest_of-rest invariant-loop decreases-loop) → c.rest_of-rest.result < (at c.before.before.before.before).loop.rest
+less c = rw c.rest_of-rest.ensures (rest_lt _ (some c.before.before.before.before))
 
-loop-less : tie.Need-loop-smaller invariant-loop decreases-loop
+loop-less : tie.Need-loop-rest-smaller invariant-loop decreases-loop
 loop-less c = less c
 
-loop-again : tie.Need-loop-preserved invariant-loop decreases-loop
+loop-again : tie.Need-loop-rest-preserved invariant-loop decreases-loop
 loop-again c =
-    let low = c.before.before.before in
-    let rest = (at low).loop.rest in (
-      word_turn rest _ (some low) (at low).loop.invariant.2 low.lowest-var.ensures (place_in (at low).before.args.places.now) (at low).before.args.word (at low).loop.out _ _ _
-          c.before.word_of.ensures
+    let rest = (at c.before.before.before.before).loop-rest.rest in (
+      word_turn rest _ (some c.before.before.before.before) (at c.before.before.before.before).loop-rest.invariant.2 c.lowest_var-k.ensures (place_in (at c.before.before.before.before).args.places.now) (at c.before.before.before.before).args.word (at c.before.before.before.before).loop-rest.out _ _ _
+          c.word_of-out.ensures
           refl
-          c.rest_of.ensures
-          (at low).loop.invariant.0,
-      rest_within (at low).before.args.word rest _ c.rest_of.ensures (at low).loop.invariant.1,
-      omega (arith, less c, (at low).loop.invariant.2),
+          c.rest_of-rest.ensures
+          (at c.before.before.before.before).loop-rest.invariant.0,
+      rest_within (at c.before.before.before.before).args.word rest _ c.rest_of-rest.ensures (at c.before.before.before.before).loop-rest.invariant.1,
+      omega (arith, less c, (at c.before.before.before.before).loop-rest.invariant.2),
     )
 
 returns : tie.Need-returns invariant-loop decreases-loop
-returns c = word_end _ _ _ _ c.loop-test.false c.before.loop.invariant.0
+returns c = word_end _ _ _ _ c.loop-rest-test.false c.loop-rest.invariant.0
 
-pub word-in-spec : {M : Type 1} → statement M
-word-in-spec =
+pub word_in_spec : {M : Type 1} → statement M
+word_in_spec =
     tie.close
     (tie.spec
     invariant-loop

@@ -49,9 +49,9 @@ buyer-wins-requires : (t : ℕ) → buyer-lts.Need-wins-requires (
   planner-below t,
   planner.Post,
 ) (buyer-at t) buyer.Post
-buyer-wins-requires t c κs = c.before.before.requires.1
+buyer-wins-requires t c κs = c.requires.1
 
-buyer-returns : (t : ℕ) → buyer-lts.Need-returns (
+buyer-returns : (t : ℕ) → buyer-lts.Need-returns-then-free-eq0 (
   wins-reads.Asked,
   wins-reads.Learnt,
   lowest-of-reads.Asked,
@@ -61,9 +61,9 @@ buyer-returns : (t : ℕ) → buyer-lts.Need-returns (
   planner-below t,
   planner.Post,
 ) (buyer-at t) buyer.Post
-buyer-returns t c = ended _ _ _ c.before.if1.true buyers-turn _ c.wins.ensures
+buyer-returns t c = ended _ _ _ c.if-free-eq0.true buyers-turn _ c.wins.ensures
 
-buyer-lowest-of-requires : (t : ℕ) → buyer-lts.Need-lowest-of-requires (
+buyer-lowest-of-requires : (t : ℕ) → buyer-lts.Need-lowest_of-option-requires (
   wins-reads.Asked,
   wins-reads.Learnt,
   lowest-of-reads.Asked,
@@ -75,7 +75,7 @@ buyer-lowest-of-requires : (t : ℕ) → buyer-lts.Need-lowest-of-requires (
 ) (buyer-at t) buyer.Post
 buyer-lowest-of-requires t c κs = tt
 
-buyer-rest-of-requires : (t : ℕ) → buyer-lts.Need-rest-of-requires (
+buyer-rest-of-requires : (t : ℕ) → buyer-lts.Need-rest_of-rest-requires (
   wins-reads.Asked,
   wins-reads.Learnt,
   lowest-of-reads.Asked,
@@ -85,7 +85,7 @@ buyer-rest-of-requires : (t : ℕ) → buyer-lts.Need-rest-of-requires (
   planner-below t,
   planner.Post,
 ) (buyer-at t) buyer.Post
-buyer-rest-of-requires t c κs = pos_of_ne-zero c.before.if1.false
+buyer-rest-of-requires t c κs = pos_of_ne-zero c.if-free-eq0.false
 
 buyer-planner-requires : (t : ℕ) → buyer-lts.Need-planner-requires (
   wins-reads.Asked,
@@ -97,13 +97,12 @@ buyer-planner-requires : (t : ℕ) → buyer-lts.Need-planner-requires (
   planner-below t,
   planner.Post,
 ) (buyer-at t) buyer.Post
-buyer-planner-requires t c κs =
-    let begin = c.before.before.before.before in (
-      subst (λ j. ones c.rest_of.result < j) begin.requires.0 (fewer _ c.before.lowest-of.result _ c.before.before.if1.false c.before.lowest-of.ensures c.rest_of.ensures),
-      begin.requires.1,
-    )
+buyer-planner-requires t c κs = (
+  subst (λ j. ones c.rest_of-rest.result < j) c.requires.0 (fewer _ c.lowest_of-option.result _ c.if-free-eq0.false c.lowest_of-option.ensures c.rest_of-rest.ensures),
+  c.requires.1,
+)
 
-buyer-planner-requires-2 : (t : ℕ) → buyer-lts.Need-planner-requires-2 (
+buyer-planner-requires-2 : (t : ℕ) → buyer-lts.Need-planner-requires-then-planner (
   wins-reads.Asked,
   wins-reads.Learnt,
   lowest-of-reads.Asked,
@@ -113,14 +112,12 @@ buyer-planner-requires-2 : (t : ℕ) → buyer-lts.Need-planner-requires-2 (
   planner-below t,
   planner.Post,
 ) (buyer-at t) buyer.Post
-buyer-planner-requires-2 t c κs =
-    let rest = c.before.before in
-    let begin = rest.before.before.before.before in (
-      subst (λ j. ones rest.rest_of.result < j) begin.requires.0 (fewer _ rest.before.lowest-of.result _ rest.before.before.if1.false rest.before.lowest-of.ensures rest.rest_of.ensures),
-      begin.requires.1,
-    )
+buyer-planner-requires-2 t c κs = (
+  subst (λ j. ones c.rest_of-rest.result < j) c.requires.0 (fewer _ c.lowest_of-option.result _ c.if-free-eq0.false c.lowest_of-option.ensures c.rest_of-rest.ensures),
+  c.requires.1,
+)
 
-buyer-returns-2 : (t : ℕ) → buyer-lts.Need-returns-2 (
+buyer-returns-2 : (t : ℕ) → buyer-lts.Need-returns-then-planner (
   wins-reads.Asked,
   wins-reads.Learnt,
   lowest-of-reads.Asked,
@@ -131,11 +128,9 @@ buyer-returns-2 : (t : ℕ) → buyer-lts.Need-returns-2 (
   planner.Post,
 ) (buyer-at t) buyer.Post
 buyer-returns-2 t c =
-    let asked = c.before.before in
-    let rest = asked.before in
-    then_second _ rest.before.lowest-of.result _ rest.before.before.if1.false rest.before.lowest-of.ensures rest.rest_of.ensures _ _ _ asked.planner.ensures c.before.if2.true _ c.planner2.ensures
+    then_second _ c.lowest_of-option.result _ c.if-free-eq0.false c.lowest_of-option.ensures c.rest_of-rest.ensures _ _ _ c.planner.ensures c.if-planner.true _ c.planner-then-planner.ensures
 
-buyer-returns-3 : (t : ℕ) → buyer-lts.Need-returns-3 (
+buyer-returns-3 : (t : ℕ) → buyer-lts.Need-returns (
   wins-reads.Asked,
   wins-reads.Learnt,
   lowest-of-reads.Asked,
@@ -146,9 +141,7 @@ buyer-returns-3 : (t : ℕ) → buyer-lts.Need-returns-3 (
   planner.Post,
 ) (buyer-at t) buyer.Post
 buyer-returns-3 t c =
-    let asked = c.before in
-    let rest = asked.before in
-    not_first _ rest.before.lowest-of.result _ rest.before.before.if1.false rest.before.lowest-of.ensures rest.rest_of.ensures _ _ _ asked.planner.ensures c.if2.false
+    not_first _ c.lowest_of-option.result _ c.if-free-eq0.false c.lowest_of-option.ensures c.rest_of-rest.ensures _ _ _ c.planner.ensures c.if-planner.false
 
 planner-wins-requires : (t : ℕ) → planner-lts.Need-wins-requires (
   wins-reads.Asked,
@@ -160,9 +153,9 @@ planner-wins-requires : (t : ℕ) → planner-lts.Need-wins-requires (
   buyer-below t,
   buyer.Post,
 ) (planner-at t) planner.Post
-planner-wins-requires t c κs = c.before.before.requires.1
+planner-wins-requires t c κs = c.requires.1
 
-planner-returns : (t : ℕ) → planner-lts.Need-returns (
+planner-returns : (t : ℕ) → planner-lts.Need-returns-then-free-eq0 (
   wins-reads.Asked,
   wins-reads.Learnt,
   lowest-of-reads.Asked,
@@ -172,9 +165,9 @@ planner-returns : (t : ℕ) → planner-lts.Need-returns (
   buyer-below t,
   buyer.Post,
 ) (planner-at t) planner.Post
-planner-returns t c = ended _ _ _ c.before.if1.true planners-turn _ c.wins.ensures
+planner-returns t c = ended _ _ _ c.if-free-eq0.true planners-turn _ c.wins.ensures
 
-planner-lowest-of-requires : (t : ℕ) → planner-lts.Need-lowest-of-requires (
+planner-lowest-of-requires : (t : ℕ) → planner-lts.Need-lowest_of-option-requires (
   wins-reads.Asked,
   wins-reads.Learnt,
   lowest-of-reads.Asked,
@@ -186,7 +179,7 @@ planner-lowest-of-requires : (t : ℕ) → planner-lts.Need-lowest-of-requires (
 ) (planner-at t) planner.Post
 planner-lowest-of-requires t c κs = tt
 
-planner-rest-of-requires : (t : ℕ) → planner-lts.Need-rest-of-requires (
+planner-rest-of-requires : (t : ℕ) → planner-lts.Need-rest_of-rest-requires (
   wins-reads.Asked,
   wins-reads.Learnt,
   lowest-of-reads.Asked,
@@ -196,7 +189,7 @@ planner-rest-of-requires : (t : ℕ) → planner-lts.Need-rest-of-requires (
   buyer-below t,
   buyer.Post,
 ) (planner-at t) planner.Post
-planner-rest-of-requires t c κs = pos_of_ne-zero c.before.if1.false
+planner-rest-of-requires t c κs = pos_of_ne-zero c.if-free-eq0.false
 
 planner-buyer-requires : (t : ℕ) → planner-lts.Need-buyer-requires (
   wins-reads.Asked,
@@ -208,13 +201,12 @@ planner-buyer-requires : (t : ℕ) → planner-lts.Need-buyer-requires (
   buyer-below t,
   buyer.Post,
 ) (planner-at t) planner.Post
-planner-buyer-requires t c κs =
-    let begin = c.before.before.before.before in (
-      subst (λ j. ones c.rest_of.result < j) begin.requires.0 (fewer _ c.before.lowest-of.result _ c.before.before.if1.false c.before.lowest-of.ensures c.rest_of.ensures),
-      begin.requires.1,
-    )
+planner-buyer-requires t c κs = (
+  subst (λ j. ones c.rest_of-rest.result < j) c.requires.0 (fewer _ c.lowest_of-option.result _ c.if-free-eq0.false c.lowest_of-option.ensures c.rest_of-rest.ensures),
+  c.requires.1,
+)
 
-planner-returns-2 : (t : ℕ) → planner-lts.Need-returns-2 (
+planner-returns-2 : (t : ℕ) → planner-lts.Need-returns-then-buyer (
   wins-reads.Asked,
   wins-reads.Learnt,
   lowest-of-reads.Asked,
@@ -225,9 +217,7 @@ planner-returns-2 : (t : ℕ) → planner-lts.Need-returns-2 (
   buyer.Post,
 ) (planner-at t) planner.Post
 planner-returns-2 t c =
-    let asked = c.before in
-    let rest = asked.before in
-    first_serves _ rest.before.lowest-of.result _ rest.before.before.if1.false rest.before.lowest-of.ensures rest.rest_of.ensures _ _ _ asked.buyer.ensures c.if2.true
+    first_serves _ c.lowest_of-option.result _ c.if-free-eq0.false c.lowest_of-option.ensures c.rest_of-rest.ensures _ _ _ c.buyer.ensures c.if-buyer.true
 
 planner-buyer-requires-2 : (t : ℕ) → planner-lts.Need-buyer-requires-2 (
   wins-reads.Asked,
@@ -239,14 +229,12 @@ planner-buyer-requires-2 : (t : ℕ) → planner-lts.Need-buyer-requires-2 (
   buyer-below t,
   buyer.Post,
 ) (planner-at t) planner.Post
-planner-buyer-requires-2 t c κs =
-    let rest = c.before.before in
-    let begin = rest.before.before.before.before in (
-      subst (λ j. ones rest.rest_of.result < j) begin.requires.0 (fewer _ rest.before.lowest-of.result _ rest.before.before.if1.false rest.before.lowest-of.ensures rest.rest_of.ensures),
-      begin.requires.1,
-    )
+planner-buyer-requires-2 t c κs = (
+  subst (λ j. ones c.rest_of-rest.result < j) c.requires.0 (fewer _ c.lowest_of-option.result _ c.if-free-eq0.false c.lowest_of-option.ensures c.rest_of-rest.ensures),
+  c.requires.1,
+)
 
-planner-returns-3 : (t : ℕ) → planner-lts.Need-returns-3 (
+planner-returns-3 : (t : ℕ) → planner-lts.Need-returns (
   wins-reads.Asked,
   wins-reads.Learnt,
   lowest-of-reads.Asked,
@@ -257,12 +245,10 @@ planner-returns-3 : (t : ℕ) → planner-lts.Need-returns-3 (
   buyer.Post,
 ) (planner-at t) planner.Post
 planner-returns-3 t c =
-    let asked = c.before.before in
-    let rest = asked.before in
-    second_serves _ rest.before.lowest-of.result _ rest.before.before.if1.false rest.before.lowest-of.ensures rest.rest_of.ensures _ _ _ asked.buyer.ensures c.before.if2.false _ c.buyer2.ensures
+    second_serves _ c.lowest_of-option.result _ c.if-free-eq0.false c.lowest_of-option.ensures c.rest_of-rest.ensures _ _ _ c.buyer.ensures c.if-buyer.false _ c.buyer-2.ensures
 
-pub +buyer-planner-spec : {M : Type 1} → statement M
-+buyer-planner-spec = close μ-buyer μ-planner (λ t. buyer-lts.spec (
+pub +buyer_planner_spec : {M : Type 1} → statement M
++buyer_planner_spec = close μ-buyer μ-planner (λ t. buyer-lts.spec (
   wins-reads.Asked,
   wins-reads.Learnt,
   lowest-of-reads.Asked,

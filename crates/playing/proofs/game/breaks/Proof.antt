@@ -9,7 +9,7 @@ minus-requires : tie.Need-minus-requires
 minus-requires c κs = search rules
 
 returns : tie.Need-returns
-returns c = breaks_is (clause_of c.before.before.args.c) c.before.before.args.x c.minus.result c.minus.ensures
+returns c = breaks_is (clause_of c.args.c) c.args.x c.minus.result c.minus.ensures
 
-pub breaks-spec : {M : Type 1} → statement M
-breaks-spec = tie.close (tie.spec minus-requires returns)
+pub breaks_spec : {M : Type 1} → statement M
+breaks_spec = tie.close (tie.spec minus-requires returns)

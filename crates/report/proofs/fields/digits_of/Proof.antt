@@ -11,27 +11,27 @@ use Rattle.report.proofs.Decimals.{digits_one, digits_more}
 use Rattle.report.proofs.fields.digits_of.Statement.{statement}
 use Rattle.report.proofs.fields.digits_of.Tie as tie
 
-abbrev invariant-loop : tie.invariant-loop
+abbrev invariant-loop : tie.invariant-loop-rest
 invariant-loop n digits₀ rest₀ digits rest = (digits + length (decimal rest) ≡ length (decimal n) + 1)
 
-abbrev decreases-loop : tie.decreases-loop
+abbrev decreases-loop : tie.decreases-loop-rest
 decreases-loop n digits₀ rest₀ digits rest = rest
 
-loop-holds : tie.Need-loop-init invariant-loop decreases-loop
+loop-holds : tie.Need-loop-rest-init invariant-loop decreases-loop
 loop-holds c = omega arith
 
-add-digits : tie.Need-overflow-add-digits invariant-loop decreases-loop
-add-digits c = omega (arith, c.before.loop.invariant, decimal_length 19 c.before.before.args.n (omega (arith, c.before.before.ranges.n.fits)))
+add-digits : tie.Need-overflow_add-digits invariant-loop decreases-loop
+add-digits c = omega (arith, c.loop-rest.invariant, decimal_length 19 c.args.n (omega (arith, c.ranges.n.fits)))
 
-loop-less : tie.Need-loop-smaller invariant-loop decreases-loop
+loop-less : tie.Need-loop-rest-smaller invariant-loop decreases-loop
 loop-less c = search rules
 
-loop-again : tie.Need-loop-preserved invariant-loop decreases-loop
-loop-again c = omega (arith, c.before.loop.invariant, digits_more c.before.loop.rest (omega (arith, c.loop-test.true)))
+loop-again : tie.Need-loop-rest-preserved invariant-loop decreases-loop
+loop-again c = omega (arith, c.loop-rest.invariant, digits_more c.loop-rest.rest (omega (arith, c.loop-rest-test.true)))
 
 returns : tie.Need-returns invariant-loop decreases-loop
-returns c = omega (arith, c.before.loop.invariant, digits_one c.before.loop.rest (omega (arith, c.loop-test.false)))
+returns c = omega (arith, c.loop-rest.invariant, digits_one c.loop-rest.rest (omega (arith, c.loop-rest-test.false)))
 
-pub digits-of-spec : {M : Type 1} → statement M
-digits-of-spec =
+pub digits_of_spec : {M : Type 1} → statement M
+digits_of_spec =
     tie.close (tie.spec invariant-loop decreases-loop loop-holds add-digits loop-less loop-again returns)

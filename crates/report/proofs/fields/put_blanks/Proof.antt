@@ -9,39 +9,38 @@ use Rattle.report.proofs.Writing.{Left, left_all, left_room, left_next, left_non
 use Rattle.report.proofs.fields.put_blanks.Statement.{statement}
 use Rattle.report.proofs.fields.put_blanks.Tie as tie
 
-abbrev invariant-loop : tie.invariant-loop
+abbrev invariant-loop : tie.invariant-loop-left
 invariant-loop count out₀ at next₀ left₀ out next left = Left out₀ at (blanks count) out next (blanks left)
 
-abbrev decreases-loop : tie.decreases-loop
+abbrev decreases-loop : tie.decreases-loop-left
 decreases-loop count out₀ at next₀ left₀ out next left = left
 
-loop-holds : tie.Need-loop-init invariant-loop decreases-loop
-loop-holds c = left_all c.before.requires
+loop-holds : tie.Need-loop-left-init invariant-loop decreases-loop
+loop-holds c = left_all c.requires
 
-put-byte-requires : tie.Need-put-byte-requires invariant-loop decreases-loop
-put-byte-requires c κs = left_room _ (blanks_more _ c.before.loop-test.true) c.before.before.loop.invariant
+put-byte-requires : tie.Need-put_byte-next-requires invariant-loop decreases-loop
+put-byte-requires c κs = left_room _ (blanks_more _ c.loop-left-test.true) c.loop-left.invariant
 
-sub-left : tie.Need-overflow-sub-left invariant-loop decreases-loop
+sub-left : tie.Need-overflow_sub-left invariant-loop decreases-loop
 sub-left c = search rules
 
-loop-less : tie.Need-loop-smaller invariant-loop decreases-loop
+loop-less : tie.Need-loop-left-smaller invariant-loop decreases-loop
 loop-less c = search rules
 
-loop-again : tie.Need-loop-preserved invariant-loop decreases-loop
+loop-again : tie.Need-loop-left-preserved invariant-loop decreases-loop
 loop-again c =
-    let turn = c.before.before.before.before in
-    left_next _ (blanks_more _ turn.loop-test.true) turn.before.loop.invariant c.before.before.put_byte.ensures
+    left_next _ (blanks_more _ c.loop-left-test.true) c.loop-left.invariant c.put_byte-next.ensures
 
-same_length : tie.Need-same-length invariant-loop decreases-loop
-same_length c = c.before.loop.invariant.long
+same_length : tie.Need-shape_of-out invariant-loop decreases-loop
+same_length c = c.loop-left.invariant.long
 
 returns : tie.Need-returns invariant-loop decreases-loop
 returns c =
-    let done : c.before.loop.left ≡ 0 = omega (arith, c.loop-test.false) in
-    left_none (ap blanks done) c.before.loop.invariant
+    let done : c.loop-left.left ≡ 0 = omega (arith, c.loop-left-test.false) in
+    left_none (ap blanks done) c.loop-left.invariant
 
-pub put-blanks-spec : {M : Type 1} → statement M
-put-blanks-spec =
+pub put_blanks_spec : {M : Type 1} → statement M
+put_blanks_spec =
     tie.close
     (tie.spec
     invariant-loop

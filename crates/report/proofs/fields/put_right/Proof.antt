@@ -15,30 +15,28 @@ counted : (n width k : ℕ) → k ≡ length (decimal n) → set_right width (de
 unfolding set_right
 counted n width k e = ap (λ (i : ℕ). blanks (width - i) ++ decimal n) (sym e)
 
-digits-of-requires : tie.Need-digits-of-requires
+digits-of-requires : tie.Need-digits_of-requires
 digits-of-requires c κs = search rules
 
-sub-put-blanks : tie.Need-overflow-sub-put-blanks
+sub-put-blanks : tie.Need-overflow_sub-width
 sub-put-blanks c = search rules
 
-put-blanks-requires : tie.Need-put-blanks-requires
-put-blanks-requires c κs = left_room _ (counted _ _ _ c.before.digits_of.ensures) (left_all c.before.before.before.requires.1)
+put-blanks-requires : tie.Need-put_blanks-next-requires
+put-blanks-requires c κs = left_room _ (counted _ _ _ c.digits_of.ensures) (left_all c.requires.1)
 
-put-number-requires : tie.Need-put-number-requires
+put-number-requires : tie.Need-put_number-requires
 put-number-requires c κs =
-    let digits = c.before.before.before.before.before in
-    (left_next _ (counted _ _ _ digits.digits_of.ensures) (left_all digits.before.before.requires.1) c.before.before.before.put-blanks.ensures).room
+    (left_next _ (counted _ _ _ c.digits_of.ensures) (left_all c.requires.1) c.put_blanks-next.ensures).room
 
-same_length : tie.Need-same-length
+same_length : tie.Need-shape_of-out
 same_length c = search rules
 
 returns : tie.Need-returns
 returns c =
-    let digits = c.before.before.before.before.before.before.before.before in
-    left_last (left_next _ (counted _ _ _ digits.digits_of.ensures) (left_all digits.before.before.requires.1) c.before.before.before.before.before.before.put-blanks.ensures) c.before.before.put-number.ensures
+    left_last (left_next _ (counted _ _ _ c.digits_of.ensures) (left_all c.requires.1) c.put_blanks-next.ensures) c.put_number.ensures
 
-pub put-right-spec : {M : Type 1} → statement M
-put-right-spec =
+pub put_right_spec : {M : Type 1} → statement M
+put_right_spec =
     tie.close
     (tie.spec
     digits-of-requires

@@ -4,68 +4,68 @@ use borrow.Author.Rules.{rules}
 use Rattle.report.proofs.lines.put_first.Statement.{statement}
 use Rattle.report.proofs.lines.put_first.Tie as tie
 
-enum_told : tie.Need-enum-told
+enum_told : tie.Need-enum_told-1
 enum_told c = search rules
 
 slice-aggregate-put-line : tie.Need-slice-aggregate-put-line
 slice-aggregate-put-line c = search rules
 
-put-line-requires : tie.Need-put-line-requires
-put-line-requires c κs = rw c.before.before.enum_told.given.1 at c.before.before.before.before.before.before.requires
+put-line-requires : tie.Need-put_line-requires
+put-line-requires c κs = rw c.in-Can.is at c.requires
 
-enum-told-2 : tie.Need-enum-told-2
+enum-told-2 : tie.Need-enum_told-in-Cannot
 enum-told-2 c = search rules
 
 slice-aggregate-put-line-2 : tie.Need-slice-aggregate-put-line-2
 slice-aggregate-put-line-2 c = search rules
 
-put-line-requires-2 : tie.Need-put-line-requires-2
-put-line-requires-2 c κs = rw c.before.before.enum-told2.given.1 at c.before.before.before.before.before.before.requires
+put-line-requires-2 : tie.Need-put_line-requires-in-Cannot
+put-line-requires-2 c κs = rw c.in-Cannot.is at c.requires
 
-enum-told-3 : tie.Need-enum-told-3
+enum-told-3 : tie.Need-enum_told-in-Refused
 enum-told-3 c = search rules
 
 slice-aggregate-put-line-3 : tie.Need-slice-aggregate-put-line-3
 slice-aggregate-put-line-3 c = search rules
 
-put-line-requires-3 : tie.Need-put-line-requires-3
-put-line-requires-3 c κs = rw c.before.before.enum-told3.given.1 at c.before.before.before.before.before.before.requires
+put-line-requires-3 : tie.Need-put_line-requires-in-Refused
+put-line-requires-3 c κs = rw c.in-Refused.is at c.requires
 
-enum-told-4 : tie.Need-enum-told-4
+enum-told-4 : tie.Need-enum_told-in-Stopped
 enum-told-4 c = search rules
 
 slice-aggregate-put-line-4 : tie.Need-slice-aggregate-put-line-4
 slice-aggregate-put-line-4 c = search rules
 
-put-line-requires-4 : tie.Need-put-line-requires-4
-put-line-requires-4 c κs = rw c.before.before.enum-told4.given.1 at c.before.before.before.before.before.before.requires
+put-line-requires-4 : tie.Need-put_line-requires-in-Stopped
+put-line-requires-4 c κs = rw c.in-Stopped.is at c.requires
 
-same_length : tie.Need-same-length
+same_length : tie.Need-shape_of-out-in-Can
 same_length c = search rules
 
-returns : tie.Need-returns
-returns c = rw c.before.before.before.before.before.enum_told.given.1 c.before.before.put-line.ensures
+returns : tie.Need-returns-in-Can
+returns c = rw c.in-Can.is c.put_line.ensures
 
-same-length-2 : tie.Need-same-length-2
+same-length-2 : tie.Need-shape_of-out-in-Cannot
 same-length-2 c = search rules
 
-returns-2 : tie.Need-returns-2
-returns-2 c = rw c.before.before.before.before.before.enum-told2.given.1 c.before.before.put-line2.ensures
+returns-2 : tie.Need-returns-in-Cannot
+returns-2 c = rw c.in-Cannot.is c.put_line-in-Cannot.ensures
 
-same-length-3 : tie.Need-same-length-3
+same-length-3 : tie.Need-shape_of-out-in-Refused
 same-length-3 c = search rules
 
-returns-3 : tie.Need-returns-3
-returns-3 c = rw c.before.before.before.before.before.enum-told3.given.1 c.before.before.put-line3.ensures
+returns-3 : tie.Need-returns-in-Refused
+returns-3 c = rw c.in-Refused.is c.put_line-in-Refused.ensures
 
-same-length-4 : tie.Need-same-length-4
+same-length-4 : tie.Need-shape_of-out-in-Stopped
 same-length-4 c = search rules
 
-returns-4 : tie.Need-returns-4
-returns-4 c = rw c.before.before.before.before.before.enum-told4.given.1 c.before.before.put-line4.ensures
+returns-4 : tie.Need-returns-in-Stopped
+returns-4 c = rw c.in-Stopped.is c.put_line-in-Stopped.ensures
 
-pub put-first-spec : {M : Type 1} → statement M
-put-first-spec =
+pub put_first_spec : {M : Type 1} → statement M
+put_first_spec =
     tie.close
     (tie.spec
     enum_told

@@ -27,7 +27,7 @@ abbrev put-number-below : ℕ → In 1 put-number-kinds.ps
 put-number-below t =
     and 1 put-number-kinds.ps (falls 1 put-number-kinds.ps ◌<◌ μ-put-number t) put-number.Pre
 
-put-number-cast-put-byte : (t : ℕ) → put-number-lts.Need-overflow-cast-put-byte (
+put-number-cast-put-byte : (t : ℕ) → put-number-lts.Need-overflow_cast-n (
   put-byte-reads.Asked,
   put-byte-reads.Learnt,
   put-number-below t,
@@ -35,7 +35,7 @@ put-number-cast-put-byte : (t : ℕ) → put-number-lts.Need-overflow-cast-put-b
 ) (put-number-at t) put-number.Post
 put-number-cast-put-byte t c = omega arith
 
-put-number-add-put-byte : (t : ℕ) → put-number-lts.Need-overflow-add-put-byte (
+put-number-add-put-byte : (t : ℕ) → put-number-lts.Need-overflow_add-n (
   put-byte-reads.Asked,
   put-byte-reads.Learnt,
   put-number-below t,
@@ -43,23 +43,23 @@ put-number-add-put-byte : (t : ℕ) → put-number-lts.Need-overflow-add-put-byt
 ) (put-number-at t) put-number.Post
 put-number-add-put-byte t c = omega arith
 
-put-number-put-byte-requires : (t : ℕ) → put-number-lts.Need-put-byte-requires (
+put-number-put-byte-requires : (t : ℕ) → put-number-lts.Need-put_byte-requires (
   put-byte-reads.Asked,
   put-byte-reads.Learnt,
   put-number-below t,
   put-number.Post,
 ) (put-number-at t) put-number.Post
-put-number-put-byte-requires t c κs = left_room [] (decimal_digit _ c.before.if1.true) (left_all c.before.before.before.requires.1)
+put-number-put-byte-requires t c κs = left_room [] (decimal_digit _ c.if-n-lt10.true) (left_all c.requires.1)
 
-put-number-put-number-requires : (t : ℕ) → put-number-lts.Need-put-number-requires (
+put-number-put-number-requires : (t : ℕ) → put-number-lts.Need-put_number-next-requires (
   put-byte-reads.Asked,
   put-byte-reads.Learnt,
   put-number-below t,
   put-number.Post,
 ) (put-number-at t) put-number.Post
-put-number-put-number-requires t c κs = (omega (arith, c.before.before.before.requires.0), left_room _ (decimal_more _ c.before.if1.false) (left_all c.before.before.before.requires.1))
+put-number-put-number-requires t c κs = (omega (arith, c.requires.0), left_room _ (decimal_more _ c.if-n-lt10.false) (left_all c.requires.1))
 
-put-number-cast-put-byte-2 : (t : ℕ) → put-number-lts.Need-overflow-cast-put-byte-2 (
+put-number-cast-put-byte-2 : (t : ℕ) → put-number-lts.Need-overflow_cast-n-else-n-lt10 (
   put-byte-reads.Asked,
   put-byte-reads.Learnt,
   put-number-below t,
@@ -67,7 +67,7 @@ put-number-cast-put-byte-2 : (t : ℕ) → put-number-lts.Need-overflow-cast-put
 ) (put-number-at t) put-number.Post
 put-number-cast-put-byte-2 t c = omega arith
 
-put-number-add-put-byte-2 : (t : ℕ) → put-number-lts.Need-overflow-add-put-byte-2 (
+put-number-add-put-byte-2 : (t : ℕ) → put-number-lts.Need-overflow_add-n-else-n-lt10 (
   put-byte-reads.Asked,
   put-byte-reads.Learnt,
   put-number-below t,
@@ -75,17 +75,16 @@ put-number-add-put-byte-2 : (t : ℕ) → put-number-lts.Need-overflow-add-put-b
 ) (put-number-at t) put-number.Post
 put-number-add-put-byte-2 t c = omega arith
 
-put-number-put-byte-requires-2 : (t : ℕ) → put-number-lts.Need-put-byte-requires-2 (
+put-number-put-byte-requires-2 : (t : ℕ) → put-number-lts.Need-put_byte-requires-else-n-lt10 (
   put-byte-reads.Asked,
   put-byte-reads.Learnt,
   put-number-below t,
   put-number.Post,
 ) (put-number-at t) put-number.Post
 put-number-put-byte-requires-2 t c κs =
-    let large = c.before.before.before.before.before in
-    left_room [] refl (left_next _ (decimal_more _ large.if1.false) (left_all large.before.before.requires.1) c.before.before.before.put-number.ensures)
+    left_room [] refl (left_next _ (decimal_more _ c.if-n-lt10.false) (left_all c.requires.1) c.put_number-next.ensures)
 
-put-number-same-length : (t : ℕ) → put-number-lts.Need-same-length (
+put-number-same-length : (t : ℕ) → put-number-lts.Need-shape_of-out-then-n-lt10 (
   put-byte-reads.Asked,
   put-byte-reads.Learnt,
   put-number-below t,
@@ -93,17 +92,16 @@ put-number-same-length : (t : ℕ) → put-number-lts.Need-same-length (
 ) (put-number-at t) put-number.Post
 put-number-same-length t c = search rules
 
-put-number-returns : (t : ℕ) → put-number-lts.Need-returns (
+put-number-returns : (t : ℕ) → put-number-lts.Need-returns-then-n-lt10 (
   put-byte-reads.Asked,
   put-byte-reads.Learnt,
   put-number-below t,
   put-number.Post,
 ) (put-number-at t) put-number.Post
 put-number-returns t c =
-    let small = c.before.before.before.before in
-    left_none refl (left_next [] (decimal_digit _ small.if1.true) (left_all small.before.before.requires.1) c.before.before.put_byte.ensures)
+    left_none refl (left_next [] (decimal_digit _ c.if-n-lt10.true) (left_all c.requires.1) c.put_byte.ensures)
 
-put-number-same-length-2 : (t : ℕ) → put-number-lts.Need-same-length-2 (
+put-number-same-length-2 : (t : ℕ) → put-number-lts.Need-shape_of-out-else-n-lt10 (
   put-byte-reads.Asked,
   put-byte-reads.Learnt,
   put-number-below t,
@@ -111,18 +109,17 @@ put-number-same-length-2 : (t : ℕ) → put-number-lts.Need-same-length-2 (
 ) (put-number-at t) put-number.Post
 put-number-same-length-2 t c = search rules
 
-put-number-returns-2 : (t : ℕ) → put-number-lts.Need-returns-2 (
+put-number-returns-2 : (t : ℕ) → put-number-lts.Need-returns-else-n-lt10 (
   put-byte-reads.Asked,
   put-byte-reads.Learnt,
   put-number-below t,
   put-number.Post,
 ) (put-number-at t) put-number.Post
 put-number-returns-2 t c =
-    let large = c.before.before.before.before.before.before.before.before in
-    left_last (left_next _ (decimal_more _ large.if1.false) (left_all large.before.before.requires.1) c.before.before.before.before.before.before.put-number.ensures) c.before.before.put-byte2.ensures
+    left_last (left_next _ (decimal_more _ c.if-n-lt10.false) (left_all c.requires.1) c.put_number-next.ensures) c.put_byte-else-n-lt10.ensures
 
-pub +put-number-spec : {M : Type 1} → statement M
-+put-number-spec = close μ-put-number λ t. put-number-lts.spec (
+pub +put_number_spec : {M : Type 1} → statement M
++put_number_spec = close μ-put-number λ t. put-number-lts.spec (
   put-byte-reads.Asked,
   put-byte-reads.Learnt,
   put-number-below t,

@@ -8,42 +8,41 @@ use Rattle.report.proofs.Writing.{Left, left_all, left_room, left_next, left_non
 use Rattle.report.proofs.put.put_text.Statement.{statement}
 use Rattle.report.proofs.put.put_text.Tie as tie
 
-abbrev invariant-loop : tie.invariant-loop
+abbrev invariant-loop : tie.invariant-loop-i
 invariant-loop text out₀ at next₀ i₀ out next i = (i ≤ length text) × Left out₀ at text out next (drop i text)
 
-abbrev decreases-loop : tie.decreases-loop
+abbrev decreases-loop : tie.decreases-loop-i
 decreases-loop text out₀ at next₀ i₀ out next i = length text - i
 
-loop-holds : tie.Need-loop-init invariant-loop decreases-loop
-loop-holds c = (omega arith, left_all c.before.before.requires)
+loop-holds : tie.Need-loop-i-init invariant-loop decreases-loop
+loop-holds c = (omega arith, left_all c.requires)
 
-shared-slice-read-put-byte : tie.Need-shared-slice-read-put-byte invariant-loop decreases-loop
+shared-slice-read-put-byte : tie.Need-bounds-text-i invariant-loop decreases-loop
 shared-slice-read-put-byte c = search rules
 
-put-byte-requires : tie.Need-put-byte-requires invariant-loop decreases-loop
-put-byte-requires c κs = left_room _ (drop_more _ _ c.before.before.loop-test.true) c.before.before.before.loop.invariant.1
+put-byte-requires : tie.Need-put_byte-next-requires invariant-loop decreases-loop
+put-byte-requires c κs = left_room _ (drop_more _ _ c.loop-i-test.true) c.loop-i.invariant.1
 
-add-i : tie.Need-overflow-add-i invariant-loop decreases-loop
+add-i : tie.Need-overflow_add-i invariant-loop decreases-loop
 add-i c = search rules
 
-loop-less : tie.Need-loop-smaller invariant-loop decreases-loop
+loop-less : tie.Need-loop-i-smaller invariant-loop decreases-loop
 loop-less c = search rules
 
-loop-again : tie.Need-loop-preserved invariant-loop decreases-loop
-loop-again c =
-    let turn = c.before.before.before.before.before in (
-      omega arith,
-      left_next _ (drop_more _ _ turn.loop-test.true) turn.before.loop.invariant.1 c.before.before.put_byte.ensures,
-    )
+loop-again : tie.Need-loop-i-preserved invariant-loop decreases-loop
+loop-again c = (
+  omega arith,
+  left_next _ (drop_more _ _ c.loop-i-test.true) c.loop-i.invariant.1 c.put_byte-next.ensures,
+)
 
-same_length : tie.Need-same-length invariant-loop decreases-loop
-same_length c = c.before.loop.invariant.1.long
+same_length : tie.Need-shape_of-out invariant-loop decreases-loop
+same_length c = c.loop-i.invariant.1.long
 
 returns : tie.Need-returns invariant-loop decreases-loop
-returns c = left_none (drop_of_length-le _ c.loop-test.false) c.before.loop.invariant.1
+returns c = left_none (drop_of_length-le _ c.loop-i-test.false) c.loop-i.invariant.1
 
-pub put-text-spec : {M : Type 1} → statement M
-put-text-spec =
+pub put_text_spec : {M : Type 1} → statement M
+put_text_spec =
     tie.close
     (tie.spec
     invariant-loop
