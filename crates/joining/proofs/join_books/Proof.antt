@@ -74,7 +74,7 @@ append-requires c κs =
     c.places-places.ensures
 
 write-requires : tie.Need-write-requires
-write-requires c κs = (fitting c.before.before.before.before.before.before.before, omega (arith, c.append.auto.t, (start c.before.before.before.before.before.before.before.before.before).pre.0.room))
+write-requires c κs = (fitting c.before.before.before.before.before.before.before, omega (arith, c.append.auto.t, (start c.before.before.before.before.before.before.before.before.before).requires.0.room))
 
 same_length : tie.Need-shape_of-t
 same_length c = search rules

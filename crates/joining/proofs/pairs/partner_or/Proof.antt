@@ -8,6 +8,7 @@ use borrow.Author.Rules.{rules}
 use Rattle.joint.specs.Pairs.{pair_count, partner_or}
 use Rattle.joining.proofs.Judged.{partner_none, partner_here, partner_later, partner_end}
 use Rattle.joining.proofs.pairs.partner_or.Statement.{statement}
+use Rattle.joining.proofs.pairs.partner_or.Lts.{then-option_at-k, else-option_at-k}
 use Rattle.joining.proofs.pairs.partner_or.Tie as tie
 
 abbrev invariant-loop : tie.invariant-loop-i
@@ -41,9 +42,10 @@ loop-less c = omega arith
 loop-again : tie.Need-loop-i-preserved invariant-loop decreases-loop
 loop-again c = (
   omega (arith, c.loop-i-test.true),
-  ⊎_elim (λ w. w.2 ∙ partner_here _ _ _ _ _ _ c.option_at.ensures w.1.ensures w.0.taken)
-      (λ w. w.1 ∙ partner_later _ _ _ _ _ _ c.option_at.ensures w.0.left c.loop-i.invariant.1)
-      c.if-option_at-k.branch,
+  elim c.if-option_at-k.branch [
+    | then-option_at-k w ↦ w.at-is ∙ partner_here _ _ _ _ _ _ c.option_at.ensures w.option_at-at.ensures w.if-option_at-k.true
+    | else-option_at-k w ↦ w.at-is ∙ partner_later _ _ _ _ _ _ c.option_at.ensures w.if-option_at-k.false c.loop-i.invariant.1
+  ],
 )
 
 returns : tie.Need-returns invariant-loop decreases-loop

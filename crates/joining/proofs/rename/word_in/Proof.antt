@@ -58,7 +58,7 @@ rest-of-requires : tie.Need-rest_of-rest-requires invariant-loop decreases-loop
 rest-of-requires c κs = omega (arith, c.loop-rest-test.true)
 
 -- there are fewer members left
-less : (c : tie.After-rest_of-rest invariant-loop decreases-loop) → c.rest_of-rest.result < (at c.before.before.before.before).loop.rest
+less : (c : tie.After-rest_of-rest invariant-loop decreases-loop) → c.rest_of-rest.result < (at c.before.before.before.before).loop-rest.rest
 less c = rw c.rest_of-rest.ensures (rest_lt _ (some c.before.before.before.before))
 
 loop-less : tie.Need-loop-rest-smaller invariant-loop decreases-loop

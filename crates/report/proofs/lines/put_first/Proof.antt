@@ -7,17 +7,11 @@ use Rattle.report.proofs.lines.put_first.Tie as tie
 enum_told : tie.Need-enum_told-1
 enum_told c = search rules
 
-slice-aggregate-put-line : tie.Need-slice-aggregate-put-line
-slice-aggregate-put-line c = search rules
-
 put-line-requires : tie.Need-put_line-requires
 put-line-requires c κs = rw c.in-Can.is at c.requires
 
 enum-told-2 : tie.Need-enum_told-in-Cannot
 enum-told-2 c = search rules
-
-slice-aggregate-put-line-2 : tie.Need-slice-aggregate-put-line-2
-slice-aggregate-put-line-2 c = search rules
 
 put-line-requires-2 : tie.Need-put_line-requires-in-Cannot
 put-line-requires-2 c κs = rw c.in-Cannot.is at c.requires
@@ -25,17 +19,11 @@ put-line-requires-2 c κs = rw c.in-Cannot.is at c.requires
 enum-told-3 : tie.Need-enum_told-in-Refused
 enum-told-3 c = search rules
 
-slice-aggregate-put-line-3 : tie.Need-slice-aggregate-put-line-3
-slice-aggregate-put-line-3 c = search rules
-
 put-line-requires-3 : tie.Need-put_line-requires-in-Refused
 put-line-requires-3 c κs = rw c.in-Refused.is at c.requires
 
 enum-told-4 : tie.Need-enum_told-in-Stopped
 enum-told-4 c = search rules
-
-slice-aggregate-put-line-4 : tie.Need-slice-aggregate-put-line-4
-slice-aggregate-put-line-4 c = search rules
 
 put-line-requires-4 : tie.Need-put_line-requires-in-Stopped
 put-line-requires-4 c κs = rw c.in-Stopped.is at c.requires
@@ -69,16 +57,12 @@ put_first_spec =
     tie.close
     (tie.spec
     enum_told
-    slice-aggregate-put-line
     put-line-requires
     enum-told-2
-    slice-aggregate-put-line-2
     put-line-requires-2
     enum-told-3
-    slice-aggregate-put-line-3
     put-line-requires-3
     enum-told-4
-    slice-aggregate-put-line-4
     put-line-requires-4
     same_length
     returns
