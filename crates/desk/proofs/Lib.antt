@@ -1,5 +1,2 @@
 -- Laws for the proofs of the calls.
 pub mod Laws
-pub mod Held
-pub mod Thin
-pub mod PassOn
