@@ -181,17 +181,18 @@ def mended(path, text, names, spec, tie_name="tie"):
         n = names.depth(m[2], m[4])
         if n is not None:
             text = re.sub(rf"^{re.escape(m[1])} c = c(?:\.before)+$", f"{m[1]} c = c" + ".before" * n, text, flags=re.M)
-    for m in re.finditer(rf"^module _ \(({WORD}+) : {T}\.({WORD}+)[^\n]*where\n((?:(?:  .*)?\n)*)", text, re.M):
+    for m in re.finditer(rf"^( *)module _ \(({WORD}+) : {T}\.({WORD}+)[^\n]*where\n((?:(?:\1  .*)?\n)*)", text, re.M):
+        m = {1: m[2], 2: m[3], 3: re.sub(rf"^{m[1]}", "", m[4], flags=re.M)}
         for inner in re.finditer(rf"^  (?:pub |abbrev )*({WORD}+) :", m[3], re.M):
             helpers[inner[1]] = m[2]
             at = re.search(rf": {T}\.({WORD}+)", m[3][inner.start():].split("\n")[0])
             if at and names.depth(m[2], at[1]) is not None:
                 text = re.sub(rf"^  {re.escape(inner[1])} = {m[1]}(?:\.before)+$", f"  {inner[1]} = {m[1]}" + ".before" * names.depth(m[2], at[1]), text, flags=re.M)
     parts = joined(blocks(text))
-    placed = set(re.findall(rf"^ *(?:pub |abbrev )*({WORD}+) :(?: \([^()]*\) →| {T}\.{WORD}+[^\n→]*→)* {T}\.(?!Need-|invariant-|decreases-){WORD}+(?: \([^()]*\)| {WORD}+)*$", text, re.M))
-    for m in re.finditer(rf"\blet ({WORD}+) =\s+({WORD}+) {WORD}+ in\b", text):
-        if m[2] in placed:
-            placed.add(m[1])
+    placed = set(re.findall(rf"^ *(?:pub |abbrev )*({WORD}+) :(?: \([^()]*\) →| {T}\.{WORD}+[^\n→]*→)* {T}\.(?!Need-|invariant-|decreases-){WORD}+(?: \([^()]*\)| [^\s()→]+)*$", text, re.M))
+    result = {}
+    for m in re.finditer(rf"^ *(?:pub |abbrev )*({WORD}+) :[^\n]*{T}\.((?!Need-|invariant-|decreases-){WORD}+)(?: \([^()]*\)| [^\s()→]+)*$", text, re.M):
+        result[m[1]] = m[2]
     out = []
     module = None
     for b in parts:
@@ -215,7 +216,12 @@ def mended(path, text, names, spec, tie_name="tie"):
             var, place = m[1], m[2]
         elif place is None and module:
             var, place = module
-        roots = {var: var, "c": "c"}
+        lets = {}
+        for _ in range(3):
+            for m in re.finditer(rf"\blet ({WORD}+) =\s+({WORD}+) (?:{WORD}+(?:\.before)*|\([^()]*\)) in\b", b):
+                if m[2] in placed:
+                    lets[m[1]] = result.get(m[2])
+        roots = {var: var, "c": "c", **{k: k for k in lets}}
         grown = True
         while grown:
             grown = False
@@ -264,7 +270,7 @@ def mended(path, text, names, spec, tie_name="tie"):
 
         path_of = path
         b = re.sub(rf"{BEGIN}({WORD}+|\({WORD}+ {WORD}+(?:\.before)*\))\.({WORD}+)((?:\.given)(?:\.[0-9])+)", arm, b)
-        root = "|".join(sorted(map(re.escape, {var, "c", "w", "e", "f"} | placed), key=len, reverse=True))
+        root = "|".join(sorted(map(re.escape, {var, "c", "w", "e", "f"} | placed | set(lets)), key=len, reverse=True))
         whole = rf"{BEGIN}({root}|\({WORD}+ {WORD}+(?:\.before)*\))"
         b = re.sub(rf"{whole}\.pre\b", r"\1.requires", b)
         b = re.sub(rf"{whole}\.fits\.", r"\1.ranges.", b)
@@ -285,6 +291,18 @@ def mended(path, text, names, spec, tie_name="tie"):
         b = re.sub(rf"\.({WORD}+)\.(new|auto|kept|last)((?:\.1)*)\.0\b", param, b)
 
         b = re.sub(rf"(?<=[\s(\[,])({root})\.pre\b", r"\1.requires", b)
+        for m in re.finditer(rf"([ \t]*)\blet ({WORD}+) =\s+((?:{WORD}+|\([^()]*\))\.({WORD}+)\.(?:new|auto))((?:\.1)*) in\b( ?\n?)", b):
+            listed = names.params.get(m[4], [])
+            if not listed:
+                continue
+            ones = m[5].count(".1")
+
+            def part(k, listed=listed, ones=ones, m=m):
+                n = ones + k[1].count(".1")
+                return f"{m[3]}.{listed[n]}" if n < len(listed) else k[0]
+
+            b = b.replace(m[0], "" if m[6].endswith("\n") and m[1] else m[1], 1)
+            b = re.sub(rf"{BEGIN}{re.escape(m[2])}((?:\.1)*)\.0\b", part, b)
         for m in re.finditer(rf"\blet ({WORD}+)(?: : [^=]*?)? = c\.({WORD}+) in\b", b):
             if m[2] in names.params:
                 listed = names.params[m[2]]
@@ -304,11 +322,12 @@ def mended(path, text, names, spec, tie_name="tie"):
 
         def call(m):
             to = helpers.get(m[1])
-            if not to or place is None or m[2] != var:
+            at = place if m[2] == var else lets.get(m[2])
+            if not to or at is None:
                 return m[0]
-            n = names.depth(place, to)
+            n = names.depth(at, to)
             if n is None:
-                said.append(f"look: {path}: {m[0]} at {place}, which is not after {to}")
+                said.append(f"look: {path}: {m[0]} at {at}, which is not after {to}")
                 return m[0]
             return f"{m[1]} {m[2]}" + ".before" * n
 

@@ -33,65 +33,62 @@ module _ (input : List ℕ) (before : Tables) where
       record { answer = done.answer ∙ ap answer_of same; tables = done.tables ∙ ap (λ (x : Result). filled x before) same }
 
 -- the function's arguments, and the lent tables
-abbrev start : tie.After-slice-known5 → tie.Start
+abbrev start : tie.After-slice_known-5-1 → tie.Start
 start c = c.before.before.before.before.before.before
 
 abbrev tables : tie.Start → Tables
 tables c = lent c.args.pos.now c.args.neg.now c.args.decided.now c.args.trues.now c.args.redundant.now
 
-returns : tie.Need-returns
+returns : tie.Need-returns-then-input-lt-ORDER_BYTES
 returns c =
     let s = start c.before in
-    no-order s.args.input.now (tables s) (omega (arith, c.if1.true))
+    no-order s.args.input.now (tables s) (omega (arith, c.if-input-lt-ORDER_BYTES.true))
 
-sub-check : tie.Need-overflow-sub-check
+sub-check : tie.Need-slice_bounds-check-count
 sub-check c = search rules
 
-part-check-start : tie.Need-slice-bounds-check-start
+part-check-start : tie.Need-slice_bounds-check-start
 part-check-start c = search rules
 
-part-check-end : tie.Need-slice-bounds-check-end
+part-check-end : tie.Need-slice_bounds-check-end
 part-check-end c = search rules
 
-order-in-requires : tie.Need-order-in-requires
+order-in-requires : tie.Need-order_in-requires
 order-in-requires c κs = search rules
 
 check-requires : tie.Need-check-requires
 check-requires c κs = search rules
 
-same_length : tie.Need-same-length
+same_length : tie.Need-shape_of-pos
 same_length c = search rules
 
-same-length-2 : tie.Need-same-length-2
+same-length-2 : tie.Need-shape_of-neg
 same-length-2 c = search rules
 
-same-length-3 : tie.Need-same-length-3
+same-length-3 : tie.Need-shape_of-decided
 same-length-3 c = search rules
 
-same-length-4 : tie.Need-same-length-4
+same-length-4 : tie.Need-shape_of-trues
 same-length-4 c = search rules
 
-same-length-5 : tie.Need-same-length-5
+same-length-5 : tie.Need-shape_of-redundant
 same-length-5 c = search rules
 
 -- the tables after the check
 abbrev left : tie.After-check → Tables
 left c =
-    let last = c.check.new.1.1.1 in
-    lent last.0 last.1.0 last.1.1.0 last.1.1.1.0 last.1.1.1.1.0
+    lent c.check.new.pos c.check.new.neg c.check.new.decided c.check.new.trues c.check.new.redundant
 
-returns-2 : tie.Need-returns-2
+returns-2 : tie.Need-returns
 returns-2 c =
-    let done = c.before.before.before.before.before.before.before.before.before.before in
-    let whole = done.before.before.before.before.before.before.before.before in
-    let s = start whole.before in
-    order-and-book s.args.input.now (tables s) _ _ (left done)
-    (omega (arith, whole.if1.false))
-    done.before.before.before.before.before.before.order-in.ensures
-    done.check.ensures
+    let s = start c.before.before.before.before.before.before.before.before.before.before.before.before.before.before.before.before.before.before.before in
+    order-and-book s.args.input.now (tables s) _ _ (left c.before.before.before.before.before.before.before.before.before.before)
+    (omega (arith, c.if-input-lt-ORDER_BYTES.false))
+    c.order_in.ensures
+    c.check.ensures
 
-pub check-input-spec : {M : Type 1} → statement M
-check-input-spec =
+pub check_input_spec : {M : Type 1} → statement M
+check_input_spec =
     tie.close
     (tie.spec
     returns

@@ -11,17 +11,17 @@ same-order : {p p' q q' s s' : ℕ} → p ≡ p' → q ≡ q' → s ≡ s' →
     ◌≡◌ {A = Order} (record { wanted = p; unwanted = q; standard = s }) (record { wanted = p'; unwanted = q'; standard = s' })
 same-order p q s = cc
 
-word-at-requires : tie.Need-word-at-requires
+word-at-requires : tie.Need-word_at-requires
 word-at-requires c κs = search rules
 
-word-at-requires-2 : tie.Need-word-at-requires-2
+word-at-requires-2 : tie.Need-word_at-requires-2
 word-at-requires-2 c κs = search rules
 
-word-at-requires-3 : tie.Need-word-at-requires-3
+word-at-requires-3 : tie.Need-word_at-requires-3
 word-at-requires-3 c κs = search rules
 
 returns : tie.Need-returns
-returns c = same-order c.before.before.word_at.ensures c.before.word-at2.ensures c.word-at3.ensures
+returns c = same-order c.word_at.ensures c.word_at-2.ensures c.word_at-3.ensures
 
-pub order-in-spec : {M : Type 1} → statement M
-order-in-spec = tie.close (tie.spec word-at-requires word-at-requires-2 word-at-requires-3 returns)
+pub order_in_spec : {M : Type 1} → statement M
+order_in_spec = tie.close (tie.spec word-at-requires word-at-requires-2 word-at-requires-3 returns)

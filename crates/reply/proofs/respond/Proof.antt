@@ -24,75 +24,74 @@ unfolding zeros reply_to
 reply input = refl
 
 -- the check, before the text is printed
-abbrev check_done : tie.After-write-outcome-arg → tie.After-check-input
+abbrev check_done : tie.After-write_outcome-arg-1 → tie.After-check_input-found
 check_done c = c.before.before.before.before.before.before.before.before.before.before.before
 
 -- the function's arguments
-abbrev start : tie.After-check-input → tie.Start
+abbrev start : tie.After-check_input-found → tie.Start
 start c = c.before.before.before.before.before.before.before.before
 
 -- the tables after the check
-abbrev left : tie.After-check-input → Tables
+abbrev left : tie.After-check_input-found → Tables
 left c =
-    let last = c.check-input.new in
-    lent last.1.0 last.1.1.0 last.1.1.1.0 last.1.1.1.1.0 last.1.1.1.1.1.0
+    lent c.check_input-found.new.pos c.check_input-found.new.neg c.check_input-found.new.decided c.check_input-found.new.trues c.check_input-found.new.redundant
 
 -- what the check left in them
-checked : (c : tie.After-check-input) → Answered (start c).args.input.now zeros c.check-input.result (left c)
+checked : (c : tie.After-check_input-found) → Answered (start c).args.input.now zeros c.check_input-found.result (left c)
 unfolding zeros
-checked c = c.check-input.ensures
+checked c = c.check_input-found.ensures
 
-slice-aggregate-check-input : tie.Need-slice-aggregate-check-input
+slice-aggregate-check-input : tie.Need-slice_bounds-check_input-end
 slice-aggregate-check-input c = search rules
 
-slice-aggregate-check-input-2 : tie.Need-slice-aggregate-check-input-2
+slice-aggregate-check-input-2 : tie.Need-slice_bounds-check_input-end-2
 slice-aggregate-check-input-2 c = search rules
 
-slice-aggregate-check-input-3 : tie.Need-slice-aggregate-check-input-3
+slice-aggregate-check-input-3 : tie.Need-slice_bounds-check_input-end-3
 slice-aggregate-check-input-3 c = search rules
 
-slice-aggregate-check-input-4 : tie.Need-slice-aggregate-check-input-4
+slice-aggregate-check-input-4 : tie.Need-slice_bounds-check_input-end-4
 slice-aggregate-check-input-4 c = search rules
 
-slice-aggregate-check-input-5 : tie.Need-slice-aggregate-check-input-5
+slice-aggregate-check-input-5 : tie.Need-slice_bounds-check_input-end-5
 slice-aggregate-check-input-5 c = search rules
 
-check-input-requires : tie.Need-check-input-requires
+check-input-requires : tie.Need-check_input-found-requires
 check-input-requires c κs = search rules
 
-slice-aggregate-write-outcome : tie.Need-slice-aggregate-write-outcome
+slice-aggregate-write-outcome : tie.Need-slice_bounds-write_outcome-end
 slice-aggregate-write-outcome c = search rules
 
-slice-aggregate-write-outcome-2 : tie.Need-slice-aggregate-write-outcome-2
+slice-aggregate-write-outcome-2 : tie.Need-slice_bounds-write_outcome-end-2
 slice-aggregate-write-outcome-2 c = search rules
 
-slice-aggregate-write-outcome-3 : tie.Need-slice-aggregate-write-outcome-3
+slice-aggregate-write-outcome-3 : tie.Need-slice_bounds-write_outcome-end-3
 slice-aggregate-write-outcome-3 c = search rules
 
-slice-aggregate-write-outcome-4 : tie.Need-slice-aggregate-write-outcome-4
+slice-aggregate-write-outcome-4 : tie.Need-slice_bounds-write_outcome-end-4
 slice-aggregate-write-outcome-4 c = search rules
 
-slice-aggregate-write-outcome-5 : tie.Need-slice-aggregate-write-outcome-5
+slice-aggregate-write-outcome-5 : tie.Need-slice_bounds-write_outcome-end-5
 slice-aggregate-write-outcome-5 c = search rules
 
-write-outcome-requires : tie.Need-write-outcome-requires
+write-outcome-requires : tie.Need-write_outcome-requires
 write-outcome-requires c κs =
     let done = check_done c in
     let fit = counts_fit _ zeros (left done) _ (checked done) in
-    let derived : length done.check-input.last.1.0 ≡ max_derived = done.check-input.kept.1.0 in
-    let records : length done.check-input.last.1.1.1.0 ≡ min_records = done.check-input.kept.1.1.1.0 in
-    (fit, omega (arith, fit.pos, fit.decided, derived, records, (start done).pre))
+    let derived : length done.check_input-found.new.pos ≡ max_derived = done.check_input-found.auto.pos in
+    let records : length done.check_input-found.new.decided ≡ min_records = done.check_input-found.auto.decided in
+    (fit, omega (arith, fit.pos, fit.decided, derived, records, (start done).requires))
 
-same_length : tie.Need-same-length
+same_length : tie.Need-shape_of-out
 same_length c = search rules
 
 returns : tie.Need-returns
 returns c =
     let done = check_done c.before.before.before in
-    printed_as (text_printed _ zeros (left done) _ (checked done) ∙ reply _) c.before.before.write-outcome.ensures
+    printed_as (text_printed _ zeros (left done) _ (checked done) ∙ reply _) c.write_outcome.ensures
 
-pub respond-spec : {M : Type 1} → statement M
-respond-spec =
+pub respond_spec : {M : Type 1} → statement M
+respond_spec =
     tie.close
     (tie.spec
     slice-aggregate-check-input

@@ -8,13 +8,13 @@ use borrow.Author.Rules.{rules}
 use Rattle.settings.proofs.after.Statement.{statement}
 use Rattle.settings.proofs.after.Tie as tie
 
-sub-result : tie.Need-overflow-sub-result
+sub-result : tie.Need-overflow_sub-result
 sub-result c = search rules
 
-add-result : tie.Need-overflow-add-result
+add-result : tie.Need-overflow_add-result
 add-result c = search rules
 
-add-result-2 : tie.Need-overflow-add-result-2
+add-result-2 : tie.Need-overflow_add-result-2
 add-result-2 c = search rules
 
 returns : tie.Need-returns
@@ -24,5 +24,5 @@ returns c =
     let sum : a.s + (18446744073709551615 - a.opens) + 1 ≡ a.s + (2 ^ 64 - a.opens) = omega (arith, c.well_formed) in
     ap (λ (x : ℕ). bit_and x a.opens) sum
 
-pub after-spec : {M : Type 1} → statement M
-after-spec = tie.close (tie.spec sub-result add-result add-result-2 returns)
+pub after_spec : {M : Type 1} → statement M
+after_spec = tie.close (tie.spec sub-result add-result add-result-2 returns)

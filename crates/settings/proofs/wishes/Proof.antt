@@ -12,7 +12,7 @@ minus-requires-2 c κs = search rules
 
 returns : tie.Need-returns
 unfolding with_setting
-returns c = cc (c.before.before.minus.ensures, c.minus2.ensures)
+returns c = cc (c.minus.ensures, c.minus-2.ensures)
 
-pub wishes-spec : {M : Type 1} → statement M
-wishes-spec = tie.close (tie.spec minus-requires minus-requires-2 returns)
+pub wishes_spec : {M : Type 1} → statement M
+wishes_spec = tie.close (tie.spec minus-requires minus-requires-2 returns)

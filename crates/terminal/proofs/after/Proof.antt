@@ -9,24 +9,22 @@ use borrow.Author.Rules.{rules}
 use Rattle.terminal.proofs.after.Statement.{statement}
 use Rattle.terminal.proofs.after.Tie as tie
 
-tally-of-requires : tie.Need-tally-of-requires
+tally-of-requires : tie.Need-tally_of-tally-requires
 tally-of-requires c κs = tt
 
-sub-t4 : tie.Need-overflow-sub-t4
+sub-t4 : tie.Need-overflow_sub-result
 sub-t4 c =
-    let begin = c.before.before.before in
-    let same : c.before.before.tally-of.result.branchings ≡ used_in begin.args.a = ap (λ (x : Tally). x.branchings) c.before.before.tally-of.ensures in
-    omega (arith, same, begin.requires.1)
+    let same : c.tally_of-tally.result.branchings ≡ used_in c.args.a = ap (λ (x : Tally). x.branchings) c.tally_of-tally.ensures in
+    omega (arith, same, c.requires.1)
 
-sub-t5 : tie.Need-overflow-sub-t5
+sub-t5 : tie.Need-overflow_sub-result-2
 sub-t5 c = search rules
 
 returns : tie.Need-returns
 returns c =
-    let told = c.before.before.before in
-    let t = told.before.args.t in
-    let make : Tally → Served = λ (x : Tally). record { answer = told.before.args.a; terminal = record { left = t.left - x.branchings; part = t.part; sites = t.sites - 1 } } in
-    ap make told.tally-of.ensures
+    let t = c.args.t in
+    let make : Tally → Served = λ (x : Tally). record { answer = c.args.a; terminal = record { left = t.left - x.branchings; part = t.part; sites = t.sites - 1 } } in
+    ap make c.tally_of-tally.ensures
 
-pub after-spec : {M : Type 1} → statement M
-after-spec = tie.close (tie.spec tally-of-requires sub-t4 sub-t5 returns)
+pub after_spec : {M : Type 1} → statement M
+after_spec = tie.close (tie.spec tally-of-requires sub-t4 sub-t5 returns)

@@ -4,44 +4,44 @@ use borrow.Author.Rules.{rules}
 use Rattle.settings.proofs.clear.counted.Statement.{statement}
 use Rattle.settings.proofs.clear.counted.Tie as tie
 
-first-places-requires : tie.Need-first-places-requires
+first-places-requires : tie.Need-first_places-requires
 first-places-requires c κs = search rules
 
-first-places-requires-2 : tie.Need-first-places-requires-2
+first-places-requires-2 : tie.Need-first_places-requires-2
 first-places-requires-2 c κs = search rules
 
-first-places-requires-3 : tie.Need-first-places-requires-3
+first-places-requires-3 : tie.Need-first_places-requires-3
 first-places-requires-3 c κs = search rules
 
-first-places-requires-4 : tie.Need-first-places-requires-4
+first-places-requires-4 : tie.Need-first_places-requires-4
 first-places-requires-4 c κs = search rules
 
-first-places-requires-5 : tie.Need-first-places-requires-5
+first-places-requires-5 : tie.Need-first_places-requires-5
 first-places-requires-5 c κs = search rules
 
-same_length : tie.Need-same-length
-same_length c = c.before.before.before.before.before.before.before.before.before.before.before.before.before.before.before.before.before.before.first-places.auto.1.0
+same_length : tie.Need-shape_of-pos
+same_length c = c.first_places.auto.t
 
-same-length-2 : tie.Need-same-length-2
-same-length-2 c = c.before.before.before.before.before.before.before.before.before.before.before.before.before.before.first-places2.auto.1.0
+same-length-2 : tie.Need-shape_of-neg
+same-length-2 c = c.first_places-2.auto.t
 
-same-length-3 : tie.Need-same-length-3
-same-length-3 c = c.before.before.before.before.before.before.before.before.before.before.first-places3.auto.1.0
+same-length-3 : tie.Need-shape_of-decided
+same-length-3 c = c.first_places-3.auto.t
 
-same-length-4 : tie.Need-same-length-4
-same-length-4 c = c.before.before.before.before.before.before.first-places4.auto.1.0
+same-length-4 : tie.Need-shape_of-trues
+same-length-4 c = c.first_places-4.auto.t
 
-same-length-5 : tie.Need-same-length-5
-same-length-5 c = c.before.before.first-places5.auto.1.0
+same-length-5 : tie.Need-shape_of-redundant
+same-length-5 c = c.first_places-5.auto.t
 
 returns : tie.Need-returns
 returns c =
     tables_equal
-    c.before.before.before.before.before.before.before.before.before.before.before.before.before.before.before.before.before.before.first-places.ensures
-    c.before.before.before.before.before.before.before.before.before.before.before.before.before.before.first-places2.ensures
-    c.before.before.before.before.before.before.before.before.before.before.first-places3.ensures
-    c.before.before.before.before.before.before.first-places4.ensures
-    c.before.before.first-places5.ensures
+    c.first_places.ensures
+    c.first_places-2.ensures
+    c.first_places-3.ensures
+    c.first_places-4.ensures
+    c.first_places-5.ensures
 
 pub counted_spec : {M : Type 1} → statement M
 counted_spec =
