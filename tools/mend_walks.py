@@ -171,7 +171,7 @@ def mended(path, text, names, spec, tie_name="tie"):
     helpers = {}
     for m in re.finditer(rf"^ *(?:pub |abbrev )*({WORD}+) : (?:\({WORD}+ : [^()]*\) → )?{T}\.Need-({WORD}+)", text, re.M):
         helpers[m[1]] = names.asked.get(m[2])
-    for m in re.finditer(rf"^ *(?:pub |abbrev )*({WORD}+) :(?: \{{[^}}]*\}} →)* \({WORD}+ : {T}\.({WORD}+)", text, re.M):
+    for m in re.finditer(rf"^ *(?:pub |abbrev )*({WORD}+) :(?:\s+\{{[^}}]*\}} →)*\s+\({WORD}+ : {T}\.({WORD}+)", text, re.M):
         helpers[m[1]] = m[2]
     for m in re.finditer(rf"^ *(?:pub |abbrev )*({WORD}+) : {T}\.((?!Need-|invariant-|decreases-){WORD}+)[^\n]*→", text, re.M):
         helpers.setdefault(m[1], m[2])
@@ -238,7 +238,7 @@ def mended(path, text, names, spec, tie_name="tie"):
         b = re.sub(rf"([ \t]*)\blet ({WORD}+)(?: : [^=]*?)? =\s+({WORD}+)((?:\.before)*) in\b( ?\n?)", bound, b)
         for alias, to in roots.items():
             if alias != to:
-                after = r"(?=\.)" if alias in helpers or alias in declared else r"(?=[.)\],;]|$)" if alias == "at" else r"(?=[.\s(){}\[\],;]|$)(?! [=:→])"
+                after = r"(?=\.)" if alias in helpers or alias in declared else r"(?=[.)\],;]|$| in\b)" if alias == "at" else r"(?=[.\s(){}\[\],;]|$)(?! [=:→])"
                 b = re.sub(rf"{BEGIN}{re.escape(alias)}{after}", to, b, flags=re.M)
         b = re.sub(r"(?:\.before)+(?=\.(?!before\b)[^\s(){}\[\],;.0-9])", "", b)
 

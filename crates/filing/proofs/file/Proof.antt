@@ -5,17 +5,17 @@ use borrow.Author.Rules.{rules}
 use Rattle.filing.proofs.file.Statement.{statement}
 use Rattle.filing.proofs.file.Tie as tie
 
-returns : tie.Need-returns
-returns c = record { short = λ h. (refl, refl); page = λ h. absurd (omega (arith, c.if1.true)) }
+returns : tie.Need-returns-then-out-lt-LONGEST
+returns c = record { short = λ h. (refl, refl); page = λ h. absurd (omega (arith, c.if-out-lt-LONGEST.true)) }
 
-put-check-requires : tie.Need-put-check-requires
+put-check-requires : tie.Need-put_check-requires
 put-check-requires c κs = search rules
 
-same_length : tie.Need-same-length
+same_length : tie.Need-shape_of-out
 same_length c = search rules
 
-returns-2 : tie.Need-returns-2
-returns-2 c = record { short = λ h. absurd (omega (arith, c.before.before.before.before.if1.false)); page = λ h. c.before.before.put-check.ensures }
+returns-2 : tie.Need-returns
+returns-2 c = record { short = λ h. absurd (omega (arith, c.if-out-lt-LONGEST.false)); page = λ h. c.put_check.ensures }
 
-pub file-spec : {M : Type 1} → statement M
-file-spec = tie.close (tie.spec returns put-check-requires same_length returns-2)
+pub file_spec : {M : Type 1} → statement M
+file_spec = tie.close (tie.spec returns put-check-requires same_length returns-2)

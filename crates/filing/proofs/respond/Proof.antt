@@ -23,48 +23,40 @@ whole :
 unfolding page_to
 whole input o h e = ap page_of (result_read places input o h e)
 
-slice-aggregate-put-page : tie.Need-slice-aggregate-put-page
-slice-aggregate-put-page c = search rules
-
-slice-aggregate-put-page-2 : tie.Need-slice-aggregate-put-page-2
-slice-aggregate-put-page-2 c = search rules
-
-put-page-requires : tie.Need-put-page-requires
+put-page-requires : tie.Need-put_page-requires
 put-page-requires c κs = search rules
 
-same_length : tie.Need-same-length
+same_length : tie.Need-shape_of-out-then-input-lt-ORDER_BYTES
 same_length c = search rules
 
-returns : tie.Need-returns
-returns c = printed_as (short_told.page ∙ sym (same_check.short _ (omega (arith, c.before.before.before.before.before.before.if1.true)))) c.before.before.put-page.ensures
+returns : tie.Need-returns-then-input-lt-ORDER_BYTES
+returns c = printed_as (short_told.page ∙ sym (same_check.short _ (omega (arith, c.if-input-lt-ORDER_BYTES.true)))) c.put_page.ensures
 
-sub-put-check : tie.Need-overflow-sub-put-check
+sub-put-check : tie.Need-slice_bounds-put_check-count
 sub-put-check c = search rules
 
-part-put-check-start : tie.Need-slice-bounds-put-check-start
+part-put-check-start : tie.Need-slice_bounds-put_check-start
 part-put-check-start c = search rules
 
-part-put-check-end : tie.Need-slice-bounds-put-check-end
+part-put-check-end : tie.Need-slice_bounds-put_check-end
 part-put-check-end c = search rules
 
-order-in-requires : tie.Need-order-in-requires
+order-in-requires : tie.Need-order_in-requires
 order-in-requires c κs = search rules
 
-put-check-requires : tie.Need-put-check-requires
+put-check-requires : tie.Need-put_check-requires
 put-check-requires c κs = search rules
 
-same-length-2 : tie.Need-same-length-2
+same-length-2 : tie.Need-shape_of-out
 same-length-2 c = search rules
 
-returns-2 : tie.Need-returns-2
-returns-2 c = printed_as (whole _ _ (omega (arith, c.before.before.before.before.before.before.if1.false)) c.before.before.before.before.order-in.ensures) c.before.before.put-check.ensures
+returns-2 : tie.Need-returns
+returns-2 c = printed_as (whole _ _ (omega (arith, c.if-input-lt-ORDER_BYTES.false)) c.order_in.ensures) c.put_check.ensures
 
-pub respond-spec : {M : Type 1} → statement M
-respond-spec =
+pub respond_spec : {M : Type 1} → statement M
+respond_spec =
     tie.close
     (tie.spec
-    slice-aggregate-put-page
-    slice-aggregate-put-page-2
     put-page-requires
     same_length
     returns

@@ -17,50 +17,50 @@ abbrev zeros : Tables
 zeros = lent (replicate max_derived 0) (replicate max_derived 0) (replicate min_records 0) (replicate min_records 0) (replicate min_records 0)
 
 -- the function's arguments
-abbrev start : tie.After-check → tie.Start
+abbrev start : tie.After-check-found → tie.Start
 start c = c.before.before.before.before.before.before.before.before
 
 -- what the check left
 told :
-    (c : tie.After-check) → let a = (start c).args in
-    Told (check a.book.now (order_of a.o) a.allowance places) c.check.result c.check.new.1.1.1.0 c.check.new.1.1.1.1.0
-told c = checked_told _ _ _ zeros (start c).ranges.allowance.fits refl _ (lent _ _ _ _ _) c.check.ensures
+    (c : tie.After-check-found) → let a = (start c).args in
+    Told (check a.book.now (order_of a.o) a.allowance places) c.check-found.result c.check-found.new.pos c.check-found.new.neg
+told c = checked_told _ _ _ zeros (start c).ranges.allowance.fits refl _ (lent _ _ _ _ _) c.check-found.ensures
 
-slice-aggregate-check : tie.Need-slice-aggregate-check
+slice-aggregate-check : tie.Need-slice_bounds-check-end
 slice-aggregate-check c = search rules
 
-slice-aggregate-check-2 : tie.Need-slice-aggregate-check-2
+slice-aggregate-check-2 : tie.Need-slice_bounds-check-end-2
 slice-aggregate-check-2 c = search rules
 
-slice-aggregate-check-3 : tie.Need-slice-aggregate-check-3
+slice-aggregate-check-3 : tie.Need-slice_bounds-check-end-3
 slice-aggregate-check-3 c = search rules
 
-slice-aggregate-check-4 : tie.Need-slice-aggregate-check-4
+slice-aggregate-check-4 : tie.Need-slice_bounds-check-end-4
 slice-aggregate-check-4 c = search rules
 
-slice-aggregate-check-5 : tie.Need-slice-aggregate-check-5
+slice-aggregate-check-5 : tie.Need-slice_bounds-check-end-5
 slice-aggregate-check-5 c = search rules
 
-check-requires : tie.Need-check-requires
+check-requires : tie.Need-check-found-requires
 check-requires c κs = search rules
 
-slice-aggregate-put-page : tie.Need-slice-aggregate-put-page
+slice-aggregate-put-page : tie.Need-slice_bounds-put_page-end
 slice-aggregate-put-page c = search rules
 
-slice-aggregate-put-page-2 : tie.Need-slice-aggregate-put-page-2
+slice-aggregate-put-page-2 : tie.Need-slice_bounds-put_page-end-2
 slice-aggregate-put-page-2 c = search rules
 
-put-page-requires : tie.Need-put-page-requires
-put-page-requires c κs = let done = c.before.before.before.before.before.before.before.before in ((told done).fit, (start done).requires)
+put-page-requires : tie.Need-put_page-requires
+put-page-requires c κs = ((told c.before.before.before.before.before.before.before.before).fit, (start c.before.before.before.before.before.before.before.before).requires)
 
-same_length : tie.Need-same-length
+same_length : tie.Need-shape_of-out
 same_length c = search rules
 
 returns : tie.Need-returns
-returns c = printed_as (told c.before.before.before.before.before.before.before.before.before.before.before).page c.before.before.put-page.ensures
+returns c = printed_as (told c.before.before.before.before.before.before.before.before.before.before.before).page c.put_page.ensures
 
-pub put-check-spec : {M : Type 1} → statement M
-put-check-spec =
+pub put_check_spec : {M : Type 1} → statement M
+put_check_spec =
     tie.close
     (tie.spec
     slice-aggregate-check

@@ -22,39 +22,37 @@ begun entry =
     let a = entry.args in
     left_all (record { fits = omega (arith, page_fits a.a a.pos.now a.neg.now entry.requires.0, entry.requires.1) })
 
-put-first-requires : tie.Need-put-first-requires
+put-first-requires : tie.Need-put_first-first-requires
 unfolding page_text
-put-first-requires c κs = let entry = c.before.before.before.before in (omega (arith, entry.requires.0.few), left_room _ refl (begun entry))
+put-first-requires c κs = (omega (arith, c.requires.0.few), left_room _ refl (begun c.before.before.before.before))
 
-tally-of-requires : tie.Need-tally-of-requires
+tally-of-requires : tie.Need-tally_of-requires
 tally-of-requires c κs = search rules
 
-put-rules-requires : tie.Need-put-rules-requires
+put-rules-requires : tie.Need-put_rules-requires
 unfolding page_text
 put-rules-requires c κs =
-    let entry = c.before.before.before.before.before.before.before.before.before in
-    let fit = entry.requires.0 in
-    let counted = ap (λ (t : Tally). t.derived) c.before.tally-of.ensures in
-    let first_done = left_next _ refl (begun entry) c.before.before.before.before.put_first.ensures in (
+    let fit = c.requires.0 in
+    let counted = ap (λ (t : Tally). t.derived) c.tally_of.ensures in
+    let first_done = left_next _ refl (begun c.before.before.before.before.before.before.before.before.before) c.put_first-first.ensures in (
       (omega (arith, counted, fit.pos), omega (arith, counted, fit.neg), omega (arith, counted, fit.few)),
-      (left_as (ap (λ (k : ℕ). rule_lines 1 (rules_of (take k entry.args.pos.now) (take k entry.args.neg.now))) (sym counted)) first_done).room,
+      (left_as (ap (λ (k : ℕ). rule_lines 1 (rules_of (take k c.args.pos.now) (take k c.args.neg.now))) (sym counted)) first_done).room,
     )
 
-same_length : tie.Need-same-length
+same_length : tie.Need-shape_of-out
 same_length c = search rules
 
 returns : tie.Need-returns
 unfolding page_text
 returns c =
-    let entry = c.before.before.before.before.before.before.before.before.before.before.before.before in
-    let counted = ap (λ (t : Tally). t.derived) c.before.before.before.before.tally-of.ensures in
-    let first_done = left_next _ refl (begun entry) c.before.before.before.before.before.before.before.put_first.ensures in
+    let counted = ap (λ (t : Tally). t.derived) c.tally_of.ensures in
+    let first_done = left_next _ refl (begun c.before.before.before.before.before.before.before.before.before.before.before.before) c.put_first-first.ensures in
     printed
     (left_last
-    (left_as (ap (λ (k : ℕ). rule_lines 1 (rules_of (take k entry.args.pos.now) (take k entry.args.neg.now))) (sym counted)) first_done)
-    c.before.before.put-rules.ensures)
+    (left_as (ap (λ (k : ℕ). rule_lines 1 (rules_of (take k c.args.pos.now) (take k c.args.neg.now))) (sym counted)) first_done)
+    c.put_rules.ensures)
 
-pub put-page-spec : {M : Type 1} → statement M
-put-page-spec =
+pub put_page_spec : {M : Type 1} → statement M
+put_page_spec =
     tie.close
     (tie.spec put-first-requires tally-of-requires put-rules-requires same_length returns)

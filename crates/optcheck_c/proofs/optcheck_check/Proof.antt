@@ -18,52 +18,51 @@ exported :
 exported bytes o allowance before after r w checked e = record { word = e ∙ ap packed checked.answer; tables = checked.tables }
 
 -- the check, before its answer is packed
-abbrev check_done : tie.After-slice-known10 → tie.After-check
+abbrev check_done : tie.After-slice_known-10-1 → tie.After-check-found
 check_done c = c.before.before.before.before.before.before.before.before.before.before
 
 -- the function's arguments
-abbrev start : tie.After-check → tie.Start
+abbrev start : tie.After-check-found → tie.Start
 start c = c.before.before.before.before.before.before.before.before.before.before.before.before
 
 -- the lent tables, before the check and after it
-abbrev before : tie.After-check → Tables
+abbrev before : tie.After-check-found → Tables
 before c = let a = (start c).args in lent a.pos.now a.neg.now a.decided.now a.trues.now a.redundant.now
 
-abbrev left : tie.After-check → Tables
+abbrev left : tie.After-check-found → Tables
 left c =
-    let last = c.check.new.1.1.1 in
-    lent last.0 last.1.0 last.1.1.0 last.1.1.1.0 last.1.1.1.1.0
+    lent c.check-found.new.pos c.check-found.new.neg c.check-found.new.decided c.check-found.new.trues c.check-found.new.redundant
 
-check-requires : tie.Need-check-requires
+check-requires : tie.Need-check-found-requires
 check-requires c κs = tt
 
-word-of-requires : tie.Need-word-of-requires
+word-of-requires : tie.Need-word_of-requires
 word-of-requires c κs =
     let done = check_done c in
-    checked_fits _ _ _ (before done) (left done) _ done.check.ensures (start done).fits.allowance.fits
+    checked_fits _ _ _ (before done) (left done) _ done.check-found.ensures (start done).ranges.allowance.fits
 
-same_length : tie.Need-same-length
-same_length c = (check_done c.before).check.auto.1.1.1.0
+same_length : tie.Need-shape_of-pos
+same_length c = (check_done c.before).check-found.auto.pos
 
-same-length-2 : tie.Need-same-length-2
-same-length-2 c = (check_done c.before).check.auto.1.1.1.1.0
+same-length-2 : tie.Need-shape_of-neg
+same-length-2 c = (check_done c.before).check-found.auto.neg
 
-same-length-3 : tie.Need-same-length-3
-same-length-3 c = (check_done c.before).check.auto.1.1.1.1.1.0
+same-length-3 : tie.Need-shape_of-decided
+same-length-3 c = (check_done c.before).check-found.auto.decided
 
-same-length-4 : tie.Need-same-length-4
-same-length-4 c = (check_done c.before).check.auto.1.1.1.1.1.1.0
+same-length-4 : tie.Need-shape_of-trues
+same-length-4 c = (check_done c.before).check-found.auto.trues
 
-same-length-5 : tie.Need-same-length-5
-same-length-5 c = (check_done c.before).check.auto.1.1.1.1.1.1.1.0
+same-length-5 : tie.Need-shape_of-redundant
+same-length-5 c = (check_done c.before).check-found.auto.redundant
 
 returns : tie.Need-returns
 returns c =
     let done = check_done c.before in
-    exported _ _ _ (before done) (left done) _ _ done.check.ensures c.word_of.ensures
+    exported _ _ _ (before done) (left done) _ _ done.check-found.ensures c.word_of.ensures
 
-pub optcheck-check-spec : {M : Type 1} → statement M
-optcheck-check-spec =
+pub optcheck_check_spec : {M : Type 1} → statement M
+optcheck_check_spec =
     tie.close
     (tie.spec
     check-requires

@@ -10,27 +10,25 @@ use Rattle.optcheck_c.proofs.optcheck_terminal.Tie as tie
 abbrev places : tie.Start → Terminal
 places c = terminal_of c.args.left.now c.args.part.now c.args.sites.now
 
-open-for-requires : tie.Need-open-for-requires
+open-for-requires : tie.Need-open_for-requires
 open-for-requires c κs = tt
 
-enum-known-k : tie.Need-enum-known-k
+enum-known-k : tie.Need-enum_known-k
 enum-known-k c = search rules
 
-enum-known-t : tie.Need-enum-known-t
+enum-known-t : tie.Need-enum_known-t
 enum-known-t c = search rules
 
-returns : tie.Need-returns
+returns : tie.Need-returns-in-Refused
 returns c =
-    let opened = c.before.before.before in
-    let a = opened.before.args in
-    hands_opening a.count a.allowance opened.open-for.result _ (places opened.before) opened.open-for.ensures c.before.k.given.1
+    let a = c.args in
+    hands_opening a.count a.allowance c.open_for.result _ (places c.before.before) c.open_for.ensures c.in-Refused.is
 
-returns-2 : tie.Need-returns-2
+returns-2 : tie.Need-returns-in-Opened
 returns-2 c =
-    let opened = c.before.before.before in
-    let a = opened.before.args in
-    hands_opening a.count a.allowance opened.open-for.result _ (places opened.before) opened.open-for.ensures c.before.t.given.1
+    let a = c.args in
+    hands_opening a.count a.allowance c.open_for.result _ (places c.before.before) c.open_for.ensures c.in-Opened.is
 
-pub optcheck-terminal-spec : {M : Type 1} → statement M
-optcheck-terminal-spec =
+pub optcheck_terminal_spec : {M : Type 1} → statement M
+optcheck_terminal_spec =
     tie.close (tie.spec open-for-requires enum-known-k enum-known-t returns returns-2)

@@ -22,81 +22,76 @@ before c = let a = (start c).args in lent a.pos.now a.neg.now a.decided.now a.tr
 
 abbrev left : tie.After-undecided → Tables
 left c =
-    let last = c.undecided.new.1.1.1.1 in
-    lent last.0 last.1.0 last.1.1.0 last.1.1.1.0 last.1.1.1.1.0
+    lent c.undecided.new.pos c.undecided.new.neg c.undecided.new.decided c.undecided.new.trues c.undecided.new.redundant
 
 undecided-requires : tie.Need-undecided-requires
 undecided-requires c κs = tt
 
-enum-known-k : tie.Need-enum-known-k
+enum-known-k : tie.Need-enum_known-k
 enum-known-k c = search rules
 
-word-of-requires : tie.Need-word-of-requires
+word-of-requires : tie.Need-word_of-requires
 word-of-requires c κs =
-    let done = c.before.before.before.before.before.before.before.before.before.before.before.before.before in
-    let a = (start done).args in
-    word_refused a.book.now (asked done) a.opens a.allowance (before done) done.undecided.result (left done) done.undecided.ensures _ c.before.k.given.1
+    let a = (start c.before.before.before.before.before.before.before.before.before.before.before).args in
+    word_refused a.book.now (asked c.before.before.before.before.before.before.before.before.before.before.before) a.opens a.allowance (before c.before.before.before.before.before.before.before.before.before.before.before) c.undecided.result (left c.before.before.before.before.before.before.before.before.before.before.before) c.undecided.ensures _ c.in-Refused.is
 
-enum-known-found : tie.Need-enum-known-found
+enum-known-found : tie.Need-enum_known-found
 enum-known-found c = search rules
 
-verdict-number-requires : tie.Need-verdict-number-requires
+verdict-number-requires : tie.Need-verdict_number-requires
 verdict-number-requires c κs = tt
 
-word-of-requires-2 : tie.Need-word-of-requires-2
+word-of-requires-2 : tie.Need-word_of-requires-in-Tried
 word-of-requires-2 c κs =
-    let done = c.before.before.before.before.before.before.before.before.before.before.before.before.before.before in
-    let a = (start done).args in
-    word_tried a.book.now (asked done) a.opens a.allowance (before done) done.undecided.result (left done) done.undecided.ensures _ c.before.before.found.given.1
-    (start done).ranges.allowance.fits
+    let a = (start c.before.before.before.before.before.before.before.before.before.before.before.before).args in
+    word_tried a.book.now (asked c.before.before.before.before.before.before.before.before.before.before.before.before) a.opens a.allowance (before c.before.before.before.before.before.before.before.before.before.before.before.before) c.undecided.result (left c.before.before.before.before.before.before.before.before.before.before.before.before) c.undecided.ensures _ c.in-Tried.is
+    (start c.before.before.before.before.before.before.before.before.before.before.before.before).ranges.allowance.fits
 
-same_length : tie.Need-same-length
-same_length c = c.before.before.before.before.before.before.before.before.before.before.before.before.before.before.undecided.auto.1.1.1.1.0
+same_length : tie.Need-shape_of-pos-in-Refused
+same_length c = c.undecided.auto.pos
 
-same-length-2 : tie.Need-same-length-2
-same-length-2 c = c.before.before.before.before.before.before.before.before.before.before.before.before.before.before.undecided.auto.1.1.1.1.1.0
+same-length-2 : tie.Need-shape_of-neg-in-Refused
+same-length-2 c = c.undecided.auto.neg
 
-same-length-3 : tie.Need-same-length-3
-same-length-3 c = c.before.before.before.before.before.before.before.before.before.before.before.before.before.before.undecided.auto.1.1.1.1.1.1.0
+same-length-3 : tie.Need-shape_of-decided-in-Refused
+same-length-3 c = c.undecided.auto.decided
 
-same-length-4 : tie.Need-same-length-4
-same-length-4 c = c.before.before.before.before.before.before.before.before.before.before.before.before.before.before.undecided.auto.1.1.1.1.1.1.1.0
+same-length-4 : tie.Need-shape_of-trues-in-Refused
+same-length-4 c = c.undecided.auto.trues
 
-same-length-5 : tie.Need-same-length-5
-same-length-5 c = c.before.before.before.before.before.before.before.before.before.before.before.before.before.before.undecided.auto.1.1.1.1.1.1.1.1.0
+same-length-5 : tie.Need-shape_of-redundant-in-Refused
+same-length-5 c = c.undecided.auto.redundant
 
-returns : tie.Need-returns
+returns : tie.Need-returns-in-Refused
 returns c =
-    let done = c.before.before.before.before.before.before.before.before.before.before.before.before.before.before in
-    let a = (start done).args in
-    told_refused a.book.now (asked done) a.opens a.allowance (before done) done.undecided.result (left done) done.undecided.ensures _ c.before.before.k.given.1 _ _ _
+    let a = (start c.before.before.before.before.before.before.before.before.before.before.before.before).args in
+    told_refused a.book.now (asked c.before.before.before.before.before.before.before.before.before.before.before.before) a.opens a.allowance (before c.before.before.before.before.before.before.before.before.before.before.before.before) c.undecided.result (left c.before.before.before.before.before.before.before.before.before.before.before.before) c.undecided.ensures _ c.in-Refused.is _ _ _
     c.word_of.ensures
 
-same-length-6 : tie.Need-same-length-6
-same-length-6 c = c.before.before.before.before.before.before.before.before.before.before.before.before.before.before.before.undecided.auto.1.1.1.1.0
+same-length-6 : tie.Need-shape_of-pos-in-Tried
+same-length-6 c = c.undecided.auto.pos
 
-same-length-7 : tie.Need-same-length-7
-same-length-7 c = c.before.before.before.before.before.before.before.before.before.before.before.before.before.before.before.undecided.auto.1.1.1.1.1.0
+same-length-7 : tie.Need-shape_of-neg-in-Tried
+same-length-7 c = c.undecided.auto.neg
 
-same-length-8 : tie.Need-same-length-8
-same-length-8 c = c.before.before.before.before.before.before.before.before.before.before.before.before.before.before.before.undecided.auto.1.1.1.1.1.1.0
+same-length-8 : tie.Need-shape_of-decided-in-Tried
+same-length-8 c = c.undecided.auto.decided
 
-same-length-9 : tie.Need-same-length-9
-same-length-9 c = c.before.before.before.before.before.before.before.before.before.before.before.before.before.before.before.undecided.auto.1.1.1.1.1.1.1.0
+same-length-9 : tie.Need-shape_of-trues-in-Tried
+same-length-9 c = c.undecided.auto.trues
 
-same-length-10 : tie.Need-same-length-10
-same-length-10 c = c.before.before.before.before.before.before.before.before.before.before.before.before.before.before.before.undecided.auto.1.1.1.1.1.1.1.1.0
+same-length-10 : tie.Need-shape_of-redundant-in-Tried
+same-length-10 c = c.undecided.auto.redundant
 
-returns-2 : tie.Need-returns-2
+returns-2 : tie.Need-returns-in-Tried
 returns-2 c =
-    let done = c.before.before.before.before.before.before.before.before.before.before.before.before.before.before.before in
-    let a = (start done).args in
-    told_tried a.book.now (asked done) a.opens a.allowance (before done) done.undecided.result (left done) done.undecided.ensures _ c.before.before.before.found.given.1 _ _ _ _
-    c.word-of2.ensures
-    c.before.verdict-number.ensures
+    let a = (start c.before.before.before.before.before.before.before.before.before.before.before.before.before).args in
+    told_tried a.book.now (asked c.before.before.before.before.before.before.before.before.before.before.before.before.before) a.opens a.allowance (before c.before.before.before.before.before.before.before.before.before.before.before.before.before) c.undecided.result (left c.before.before.before.before.before.before.before.before.before.before.before.before.before) c.undecided.ensures _ c.in-Tried.is _ _ _ _
+    c.word_of-in-Tried.ensures
+    c.verdict_number.ensures
 
-pub undecided-spec : {M : Type 1} → statement M
-undecided-spec =
+pub undecided_spec : {M : Type 1} → statement M
+undecided_spec =
     tie.close
     (tie.spec
     undecided-requires

@@ -14,10 +14,10 @@ tables c = let a = c.args in lent a.pos.now a.neg.now a.decided.now a.trues.now 
 refusal-requires : tie.Need-refusal-requires
 refusal-requires c κs = tt
 
-enum-known-k : tie.Need-enum-known-k
+enum-known-k : tie.Need-enum_known-k
 enum-known-k c = search rules
 
-enum_told : tie.Need-enum-told
+enum_told : tie.Need-enum_told-1
 enum_told c = search rules
 
 all-requires : tie.Need-all-requires
@@ -25,52 +25,49 @@ all-requires c κs = tt
 
 -- the refusals were judged, where the tables are cleared
 abbrev judged-at : tie.After-all → tie.After-refusal
-judged-at c = c.before.before.before.before.before.before.before.before
+judged-at c = c.before.before.before.before.before.before.before
 
 -- the function's arguments, where they were judged
 abbrev start : tie.After-refusal → tie.Start
 start c = c.before.before.before.before.before.before.before
 
-try-all-requires : tie.Need-try-all-requires
-try-all-requires c κs = let cleared = c.before.before.before.before.before.before.before.before.before.before.before.before.before.before.before in ready (tables (start (judged-at cleared))) _ cleared.all.ensures
+try-all-requires : tie.Need-try_all-requires
+try-all-requires c κs = ready (tables (start (judged-at c.before.before.before.before.before.before.before.before.before.before.before.before.before.before.before))) _ c.all.ensures
 
-returns : tie.Need-returns
+returns : tie.Need-returns-in-Number
 returns c =
-    let judged = c.before.before.before in
-    let a = (start judged).args in
-    replies_refused a.book.now (order_of a.o) a.opens a.allowance (tables (start judged)) judged.refusal.result judged.refusal.ensures _
-    c.before.k.given.1
+    let a = (start c.before).args in
+    replies_refused a.book.now (order_of a.o) a.opens a.allowance (tables (start c.before)) c.refusal.result c.refusal.ensures _
+    c.in-Number.is
 
-same_length : tie.Need-same-length
-same_length c = let tried = c.before.before.before.before.before.before.before.before.before.before in tried.try-all.auto.1.1.1.1.0 ∙ tried.before.before.before.before.before.before.before.before.before.before.before.before.before.before.before.before.all.auto.0
+same_length : tie.Need-shape_of-pos
+same_length c = c.try_all.auto.pos ∙ c.all.auto.pos
 
-same-length-2 : tie.Need-same-length-2
-same-length-2 c = let tried = c.before.before.before.before.before.before.before.before.before.before in tried.try-all.auto.1.1.1.1.1.0 ∙ tried.before.before.before.before.before.before.before.before.before.before.before.before.before.before.before.before.all.auto.1.0
+same-length-2 : tie.Need-shape_of-neg
+same-length-2 c = c.try_all.auto.neg ∙ c.all.auto.neg
 
-same-length-3 : tie.Need-same-length-3
-same-length-3 c = let tried = c.before.before.before.before.before.before.before.before.before.before in tried.try-all.auto.1.1.1.1.1.1.0 ∙ tried.before.before.before.before.before.before.before.before.before.before.before.before.before.before.before.before.all.auto.1.1.0
+same-length-3 : tie.Need-shape_of-decided
+same-length-3 c = c.try_all.auto.decided ∙ c.all.auto.decided
 
-same-length-4 : tie.Need-same-length-4
-same-length-4 c = let tried = c.before.before.before.before.before.before.before.before.before.before in tried.try-all.auto.1.1.1.1.1.1.1.0 ∙ tried.before.before.before.before.before.before.before.before.before.before.before.before.before.before.before.before.all.auto.1.1.1.0
+same-length-4 : tie.Need-shape_of-trues
+same-length-4 c = c.try_all.auto.trues ∙ c.all.auto.trues
 
-same-length-5 : tie.Need-same-length-5
-same-length-5 c = let tried = c.before.before.before.before.before.before.before.before.before.before in tried.try-all.auto.1.1.1.1.1.1.1.1.0 ∙ tried.before.before.before.before.before.before.before.before.before.before.before.before.before.before.before.before.all.auto.1.1.1.1.0
+same-length-5 : tie.Need-shape_of-redundant
+same-length-5 c = c.try_all.auto.redundant ∙ c.all.auto.redundant
 
-returns-2 : tie.Need-returns-2
+returns-2 : tie.Need-returns-in-Nothing
 returns-2 c =
-    let tried = c.before.before.before.before.before.before.before.before.before.before in
-    let cleared = tried.before.before.before.before.before.before.before.before.before.before.before.before.before.before.before.before in
-    let judged = judged-at cleared in
+    let judged = judged-at c.before.before.before.before.before.before.before.before.before.before.before.before.before.before.before.before.before.before.before.before.before.before.before.before.before.before in
     let a = (start judged).args in
     replies_tried a.book.now (order_of a.o) a.opens a.allowance (tables (start judged)) judged.refusal.result judged.refusal.ensures _
-    tried.try-all.result
+    c.try_all.result
     _
-    cleared.before.before.before.before.before.before.enum_told.given.1
-    cleared.all.ensures
-    tried.try-all.ensures
+    c.in-Nothing.is
+    c.all.ensures
+    c.try_all.ensures
 
-pub undecided-spec : {M : Type 1} → statement M
-undecided-spec =
+pub undecided_spec : {M : Type 1} → statement M
+undecided_spec =
     tie.close
     (tie.spec
     refusal-requires

@@ -34,7 +34,7 @@ derived-field : (a : Answer) (t : Tally) → t ≡ tally_in a → after-branchin
 derived-field a t e = ap (λ (u : Tally). set_right 10 (decimal u.derived) ++ ascii "\n") (sym e)
 
 -- the function's arguments
-abbrev start : tie.After-put-word → tie.Start
+abbrev start : tie.After-put_word-word → tie.Start
 start c = c.before.before.before.before
 
 -- what is left of the line once so much of it is written that `rest` is left
@@ -42,67 +42,64 @@ abbrev Line : tie.Start → List ℕ → ℕ → List ℕ → Type 0
 Line s out next rest = Left s.args.out.now s.args.at (first_line s.args.a) out next rest
 
 -- once the word is written, then the number, the branchings and the derived count
-word-done : (c : tie.After-put-word) → let a = (start c).args.a in Line (start c) c.put_word.new.1.0 c.put_word.result (set_right 10 (decimal (number_in a)) ++ after-number a)
+word-done : (c : tie.After-put_word-word) → let a = (start c).args.a in Line (start c) c.put_word-word.new.out c.put_word-word.result (set_right 10 (decimal (number_in a)) ++ after-number a)
 unfolding first_line
-word-done c = left_next _ refl (left_all (start c).requires.1) c.put_word.ensures
+word-done c = left_next _ refl (left_all (start c).requires.1) c.put_word-word.ensures
 
-number-done : (c : tie.After-put-right) → let s = start c.before.before.before.before.before in Line s c.put_right.new.1.1.0 c.put_right.result (after-number s.args.a)
-number-done c = left_next _ (number-field (start c.before.before.before.before.before).args.a _ c.before.before.number_of_lem.ensures) (word-done c.before.before.before.before.before) c.put_right.ensures
+number-done : (c : tie.After-put_right-number) → let s = start c.before.before.before.before.before in Line s c.put_right-number.new.out c.put_right-number.result (after-number s.args.a)
+number-done c = left_next _ (number-field (start c.before.before.before.before.before).args.a _ c.number_of.ensures) (word-done c.before.before.before.before.before) c.put_right-number.ensures
 
-branchings-done : (c : tie.After-put-right2) → let s = start c.before.before.before.before.before.before.before.before.before.before in Line s c.put-right2.new.1.1.0 c.put-right2.result (after-branchings s.args.a)
-branchings-done c = left_next _ (branchings-field (start c.before.before.before.before.before.before.before.before.before.before).args.a _ c.before.before.before.before.before.before.before.before.before.before.before.before.tally-of.ensures) (number-done c.before.before.before.before.before) c.put-right2.ensures
+branchings-done : (c : tie.After-put_right-branchings) → let s = start c.before.before.before.before.before.before.before.before.before.before in Line s c.put_right-branchings.new.out c.put_right-branchings.result (after-branchings s.args.a)
+branchings-done c = left_next _ (branchings-field (start c.before.before.before.before.before.before.before.before.before.before).args.a _ c.tally_of-tally.ensures) (number-done c.before.before.before.before.before) c.put_right-branchings.ensures
 
-derived-done : (c : tie.After-put-right3) → let s = start c.before.before.before.before.before.before.before.before.before.before.before.before.before.before in Line s c.put-right3.new.1.1.0 c.put-right3.result (ascii "\n")
-derived-done c = left_next _ (derived-field (start c.before.before.before.before.before.before.before.before.before.before.before.before.before.before).args.a _ c.before.before.before.before.before.before.before.before.before.before.before.before.before.before.before.before.tally-of.ensures) (branchings-done c.before.before.before.before) c.put-right3.ensures
+derived-done : (c : tie.After-put_right-derived) → let s = start c.before.before.before.before.before.before.before.before.before.before.before.before.before.before in Line s c.put_right-derived.new.out c.put_right-derived.result (ascii "\n")
+derived-done c = left_next _ (derived-field (start c.before.before.before.before.before.before.before.before.before.before.before.before.before.before).args.a _ c.tally_of-tally.ensures) (branchings-done c.before.before.before.before) c.put_right-derived.ensures
 
-tally-of-requires : tie.Need-tally-of-requires
+tally-of-requires : tie.Need-tally_of-tally-requires
 tally-of-requires c κs = search rules
 
-put-word-requires : tie.Need-put-word-requires
+put-word-requires : tie.Need-put_word-word-requires
 unfolding first_line
-put-word-requires c κs = left_room _ refl (left_all c.before.before.before.requires.1)
+put-word-requires c κs = left_room _ refl (left_all c.requires.1)
 
-number-of-requires : tie.Need-number-of-requires
+number-of-requires : tie.Need-number_of-requires
 number-of-requires c κs = search rules
 
-cast-put-right : tie.Need-overflow-cast-put-right
+cast-put-right : tie.Need-overflow_cast-number_of
 cast-put-right c = search rules
 
-put-right-requires : tie.Need-put-right-requires
+put-right-requires : tie.Need-put_right-number-requires
 put-right-requires c κs =
-    let word = c.before.before.before.before in
-    let number = c.before.number_of_lem in
-    (decimal_length 9 number.result (omega (arith, number.type-inv)), left_room _ (number-field (start word).args.a _ number.ensures) (word-done word))
+    let number = c.number_of in
+    (decimal_length 9 number.result (omega (arith, number.type_inv)), left_room _ (number-field (start c.before.before.before.before).args.a _ number.ensures) (word-done c.before.before.before.before))
 
-cast-put-right-2 : tie.Need-overflow-cast-put-right-2
+cast-put-right-2 : tie.Need-overflow_cast-tally
 cast-put-right-2 c = search rules
 
-put-right-requires-2 : tie.Need-put-right-requires-2
+put-right-requires-2 : tie.Need-put_right-branchings-requires
 put-right-requires-2 c κs =
-    let word = c.before.before.before.before.before.before.before.before.before in
-    let tally = word.before.before.tally-of in
-    (decimal_length 9 tally.result.branchings (omega (arith, tally.type-inv)), left_room _ (branchings-field (start word).args.a _ tally.ensures) (number-done c.before.before.before.before))
+    let tally = c.tally_of-tally in
+    (decimal_length 9 tally.result.branchings (omega (arith, tally.type_inv)), left_room _ (branchings-field (start c.before.before.before.before.before.before.before.before.before).args.a _ tally.ensures) (number-done c.before.before.before.before))
 
-put-right-requires-3 : tie.Need-put-right-requires-3
+put-right-requires-3 : tie.Need-put_right-derived-requires
 put-right-requires-3 c κs =
-    let word = c.before.before.before.before.before.before.before.before.before.before.before.before.before in
-    let tally = word.before.before.tally-of in
+    let tally = c.tally_of-tally in
     let counted = ap (λ (t : Tally). t.derived) tally.ensures in (
-      decimal_length 9 tally.result.derived (omega (arith, counted, (start word).requires.0)),
-      left_room _ (derived-field (start word).args.a _ tally.ensures) (branchings-done c.before.before.before),
+      decimal_length 9 tally.result.derived (omega (arith, counted, (start c.before.before.before.before.before.before.before.before.before.before.before.before.before).requires.0)),
+      left_room _ (derived-field (start c.before.before.before.before.before.before.before.before.before.before.before.before.before).args.a _ tally.ensures) (branchings-done c.before.before.before),
     )
 
-put-byte-requires : tie.Need-put-byte-requires
+put-byte-requires : tie.Need-put_byte-requires
 put-byte-requires c κs = (derived-done c.before.before.before).room
 
-same_length : tie.Need-same-length
+same_length : tie.Need-shape_of-out
 same_length c = search rules
 
 returns : tie.Need-returns
-returns c = left_last (derived-done c.before.before.before.before.before.before) c.before.before.put_byte.ensures
+returns c = left_last (derived-done c.before.before.before.before.before.before) c.put_byte.ensures
 
-pub put-first-spec : {M : Type 1} → statement M
-put-first-spec =
+pub put_first_spec : {M : Type 1} → statement M
+put_first_spec =
     tie.close
     (tie.spec
     tally-of-requires

@@ -10,38 +10,37 @@ use Rattle.page.proofs.Text.{spaced_turn, spaced_end}
 use Rattle.layout.proofs.rule.put_entries.Statement.{statement}
 use Rattle.layout.proofs.rule.put_entries.Tie as tie
 
-abbrev invariant-loop : tie.invariant-loop
+abbrev invariant-loop : tie.invariant-loop-v
 invariant-loop pos neg out₀ next₀ v₀ out next v =
     (v ≤ max_vars) × Left out₀ 0 (spaced (entries (record { pos = pos; neg = neg }))) out next (spaced (entries_from (max_vars - v) v (record { pos = pos; neg = neg })))
 
-abbrev decreases-loop : tie.decreases-loop
+abbrev decreases-loop : tie.decreases-loop-v
 decreases-loop pos neg out₀ next₀ v₀ out next v = max_vars - v
 
-loop-holds : tie.Need-loop-init invariant-loop decreases-loop
-loop-holds c = (omega arith, left_all c.before.requires)
+loop-holds : tie.Need-loop-v-init invariant-loop decreases-loop
+loop-holds c = (omega arith, left_all c.requires)
 
-put-entry-requires : tie.Need-put-entry-requires invariant-loop decreases-loop
-put-entry-requires c κs = (c.before.loop-test.true, left_room _ (spaced_turn _ _ c.before.loop-test.true) c.before.before.loop.invariant.1)
+put-entry-requires : tie.Need-put_entry-next-requires invariant-loop decreases-loop
+put-entry-requires c κs = (c.loop-v-test.true, left_room _ (spaced_turn _ _ c.loop-v-test.true) c.loop-v.invariant.1)
 
-add-v : tie.Need-overflow-add-v invariant-loop decreases-loop
+add-v : tie.Need-overflow_add-v invariant-loop decreases-loop
 add-v c = search rules
 
-loop-less : tie.Need-loop-smaller invariant-loop decreases-loop
+loop-less : tie.Need-loop-v-smaller invariant-loop decreases-loop
 loop-less c = search rules
 
-loop-again : tie.Need-loop-preserved invariant-loop decreases-loop
+loop-again : tie.Need-loop-v-preserved invariant-loop decreases-loop
 loop-again c =
-    let turn = c.before.before.before.before in
-    (omega arith, left_next _ (spaced_turn _ _ turn.loop-test.true) turn.before.loop.invariant.1 c.before.before.put-entry.ensures)
+    (omega arith, left_next _ (spaced_turn _ _ c.loop-v-test.true) c.loop-v.invariant.1 c.put_entry-next.ensures)
 
-same_length : tie.Need-same-length invariant-loop decreases-loop
-same_length c = c.before.loop.invariant.1.long
+same_length : tie.Need-shape_of-out invariant-loop decreases-loop
+same_length c = c.loop-v.invariant.1.long
 
 returns : tie.Need-returns invariant-loop decreases-loop
-returns c = left_none (spaced_end _ _ c.loop-test.false) c.before.loop.invariant.1
+returns c = left_none (spaced_end _ _ c.loop-v-test.false) c.loop-v.invariant.1
 
-pub put-entries-spec : {M : Type 1} → statement M
-put-entries-spec =
+pub put_entries_spec : {M : Type 1} → statement M
+put_entries_spec =
     tie.close
     (tie.spec
     invariant-loop

@@ -25,50 +25,47 @@ left_out s = entry_left_out s.args.v (has s.args.pos s.args.v) (has s.args.neg s
 neither : (s : tie.Start) → (digit (has s.args.pos s.args.v) ≡ 1 → ⊥) → (digit (has s.args.neg s.args.v) ≡ 1 → ⊥) → text s ≡ []
 neither s = entry_none s.args.v (has s.args.pos s.args.v) (has s.args.neg s.args.v)
 
-bit-of-requires : tie.Need-bit-of-requires
+bit-of-requires : tie.Need-bit_of-requires
 bit-of-requires c κs = search rules
 
-put-byte-requires : tie.Need-put-byte-requires
-put-byte-requires c κs = left_room _ (fitted c.before.before.before.before (sym c.before.before.bit-of.ensures ∙ c.before.if1.true)) (left_all c.before.before.before.before.requires.1)
+put-byte-requires : tie.Need-put_byte-next-requires
+put-byte-requires c κs = left_room _ (fitted c.before.before.before.before (sym c.bit_of.ensures ∙ c.if-bit_of-eq1.true)) (left_all c.requires.1)
 
-add-put-number : tie.Need-overflow-add-put-number
+add-put-number : tie.Need-overflow_add-v
 add-put-number c = search rules
 
-put-number-requires : tie.Need-put-number-requires
-put-number-requires c κs = (left_next _ (fitted c.before.before.before.before.before.before.before.before (sym c.before.before.before.before.before.before.bit-of.ensures ∙ c.before.before.before.before.before.if1.true)) (left_all c.before.before.before.before.before.before.before.before.requires.1) c.before.before.before.put_byte.ensures).room
+put-number-requires : tie.Need-put_number-requires
+put-number-requires c κs = (left_next _ (fitted c.before.before.before.before.before.before.before.before (sym c.bit_of.ensures ∙ c.if-bit_of-eq1.true)) (left_all c.requires.1) c.put_byte-next.ensures).room
 
-same_length : tie.Need-same-length
+same_length : tie.Need-shape_of-out-then-bit_of-eq1
 same_length c = search rules
 
-returns : tie.Need-returns
-returns c = left_last (left_next _ (fitted c.before.before.before.before.before.before.before.before.before.before.before (sym c.before.before.before.before.before.before.before.before.before.bit-of.ensures ∙ c.before.before.before.before.before.before.before.before.if1.true)) (left_all c.before.before.before.before.before.before.before.before.before.before.before.requires.1) c.before.before.before.before.before.before.put_byte.ensures) c.before.before.put-number.ensures
+returns : tie.Need-returns-then-bit_of-eq1
+returns c = left_last (left_next _ (fitted c.before.before.before.before.before.before.before.before.before.before.before (sym c.bit_of.ensures ∙ c.if-bit_of-eq1.true)) (left_all c.requires.1) c.put_byte-next.ensures) c.put_number.ensures
 
-bit-of-requires-2 : tie.Need-bit-of-requires-2
+bit-of-requires-2 : tie.Need-bit_of-requires-2
 bit-of-requires-2 c κs = search rules
 
-slice-aggregate-put-text : tie.Need-slice-aggregate-put-text
-slice-aggregate-put-text c = search rules
+put-text-requires : tie.Need-put_text-next-requires
+put-text-requires c κs = left_room _ (left_out c.before.before.before.before.before.before.before.before (λ e. c.if-bit_of-eq1.false (c.bit_of.ensures ∙ e)) (sym c.bit_of-2.ensures ∙ c.if-bit_of-eq1-2.true)) (left_all c.requires.1)
 
-put-text-requires : tie.Need-put-text-requires
-put-text-requires c κs = left_room _ (left_out c.before.before.before.before.before.before.before (λ e. c.before.before.before.before.if1.false (c.before.before.before.before.before.bit-of.ensures ∙ e)) (sym c.before.before.before.bit-of2.ensures ∙ c.before.before.if2.true)) (left_all c.before.before.before.before.before.before.before.requires.1)
-
-add-put-number-2 : tie.Need-overflow-add-put-number-2
+add-put-number-2 : tie.Need-overflow_add-v-then-bit_of-eq1-2
 add-put-number-2 c = search rules
 
-put-number-requires-2 : tie.Need-put-number-requires-2
-put-number-requires-2 c κs = (left_next _ (left_out c.before.before.before.before.before.before.before.before.before.before.before (λ e. c.before.before.before.before.before.before.before.before.if1.false (c.before.before.before.before.before.before.before.before.before.bit-of.ensures ∙ e)) (sym c.before.before.before.before.before.before.before.bit-of2.ensures ∙ c.before.before.before.before.before.before.if2.true)) (left_all c.before.before.before.before.before.before.before.before.before.before.before.requires.1) c.before.before.before.put-text.ensures).room
+put-number-requires-2 : tie.Need-put_number-requires-then-bit_of-eq1-2
+put-number-requires-2 c κs = (left_next _ (left_out c.before.before.before.before.before.before.before.before.before.before.before.before (λ e. c.if-bit_of-eq1.false (c.bit_of.ensures ∙ e)) (sym c.bit_of-2.ensures ∙ c.if-bit_of-eq1-2.true)) (left_all c.requires.1) c.put_text-next.ensures).room
 
-same-length-2 : tie.Need-same-length-2
+same-length-2 : tie.Need-shape_of-out-then-bit_of-eq1-2
 same-length-2 c = search rules
 
-returns-2 : tie.Need-returns-2
-returns-2 c = left_last (left_next _ (left_out c.before.before.before.before.before.before.before.before.before.before.before.before.before.before (λ e. c.before.before.before.before.before.before.before.before.before.before.before.if1.false (c.before.before.before.before.before.before.before.before.before.before.before.before.bit-of.ensures ∙ e)) (sym c.before.before.before.before.before.before.before.before.before.before.bit-of2.ensures ∙ c.before.before.before.before.before.before.before.before.before.if2.true)) (left_all c.before.before.before.before.before.before.before.before.before.before.before.before.before.before.requires.1) c.before.before.before.before.before.before.put-text.ensures) c.before.before.put-number2.ensures
+returns-2 : tie.Need-returns-then-bit_of-eq1-2
+returns-2 c = left_last (left_next _ (left_out c.before.before.before.before.before.before.before.before.before.before.before.before.before.before.before (λ e. c.if-bit_of-eq1.false (c.bit_of.ensures ∙ e)) (sym c.bit_of-2.ensures ∙ c.if-bit_of-eq1-2.true)) (left_all c.requires.1) c.put_text-next.ensures) c.put_number-then-bit_of-eq1-2.ensures
 
-returns-3 : tie.Need-returns-3
-returns-3 c = left_none (neither c.before.before.before.before.before (λ e. c.before.before.if1.false (c.before.before.before.bit-of.ensures ∙ e)) (λ e. c.if2.false (c.before.bit-of2.ensures ∙ e))) (left_all c.before.before.before.before.before.requires.1)
+returns-3 : tie.Need-returns
+returns-3 c = left_none (neither c.before.before.before.before.before (λ e. c.if-bit_of-eq1.false (c.bit_of.ensures ∙ e)) (λ e. c.if-bit_of-eq1-2.false (c.bit_of-2.ensures ∙ e))) (left_all c.requires.1)
 
-pub put-entry-spec : {M : Type 1} → statement M
-put-entry-spec =
+pub put_entry_spec : {M : Type 1} → statement M
+put_entry_spec =
     tie.close
     (tie.spec
     bit-of-requires
@@ -78,7 +75,6 @@ put-entry-spec =
     same_length
     returns
     bit-of-requires-2
-    slice-aggregate-put-text
     put-text-requires
     add-put-number-2
     put-number-requires-2

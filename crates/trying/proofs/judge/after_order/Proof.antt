@@ -10,48 +10,46 @@ use Rattle.trying.proofs.Rows.{too_many, too_high, decided_too, tables_faulty, n
 use Rattle.trying.proofs.judge.after_order.Statement.{statement}
 use Rattle.trying.proofs.judge.after_order.Tie as tie
 
-count-of-requires : tie.Need-count-of-requires
+count-of-requires : tie.Need-count_of-requires
 count-of-requires c κs = search rules
 
-returns : tie.Need-returns
-returns c = too_many _ _ _ _ (omega (arith, c.if1.true, c.before.count_of.ensures))
+returns : tie.Need-returns-then-count_of-gt-MAX_OPEN
+returns c = too_many _ _ _ _ (omega (arith, c.if-count_of-gt-MAX_OPEN.true, c.count_of.ensures))
 
-names-above-requires : tie.Need-names-above-requires
+names-above-requires : tie.Need-names_above-requires
 names-above-requires c κs = search rules
 
-returns-2 : tie.Need-returns-2
-returns-2 c = too_high _ _ _ _ (sym c.before.names_above.ensures ∙ c.if2.true)
+returns-2 : tie.Need-returns-then-names_above
+returns-2 c = too_high _ _ _ _ (sym c.names_above.ensures ∙ c.if-names_above.true)
 
 meets-requires : tie.Need-meets-requires
 meets-requires c κs = search rules
 
 -- at most 10 options, and none above n
-few : (c : tie.Else2) → ones c.before.before.before.before.args.opens ≤ 10
-few c = omega (arith, c.before.before.if1.false, c.before.before.before.count_of.ensures)
+few : (c : tie.Else-names_above) → ones c.args.opens ≤ 10
+few c = omega (arith, c.if-count_of-gt-MAX_OPEN.false, c.count_of.ensures)
 
-low : (c : tie.Else2) → above c.before.before.before.before.args.vars c.before.before.before.before.args.opens 0 ≡ false
-low c = sym c.before.names_above.ensures ∙ c.if2.false
+low : (c : tie.Else-names_above) → above c.args.vars c.args.opens 0 ≡ false
+low c = sym c.names_above.ensures ∙ c.if-names_above.false
 
-returns-3 : tie.Need-returns-3
-returns-3 c = decided_too _ _ _ _ (few c.before.before.before) (low c.before.before.before) (sym c.before.meets.ensures ∙ c.if3.true)
+returns-3 : tie.Need-returns-then-meets
+returns-3 c = decided_too _ _ _ _ (few c.before.before.before) (low c.before.before.before) (sym c.meets.ensures ∙ c.if-meets.true)
 
 fault-requires : tie.Need-fault-requires
 fault-requires c κs = search rules
 
-returns-4 : tie.Need-returns-4
+returns-4 : tie.Need-returns-then-fault
 returns-4 c =
-    let tests = c.before.before in
-    tables_faulty _ _ _ _ (few tests.before.before.before) (low tests.before.before.before) (sym tests.before.meets.ensures ∙ tests.if3.false)
-    (sym c.before.fault.ensures ∙ c.if4.true)
+    tables_faulty _ _ _ _ (few c.before.before.before.before.before) (low c.before.before.before.before.before) (sym c.meets.ensures ∙ c.if-meets.false)
+    (sym c.fault.ensures ∙ c.if-fault.true)
 
-returns-5 : tie.Need-returns-5
+returns-5 : tie.Need-returns
 returns-5 c =
-    let tests = c.before.before in
-    nothing_faulty _ _ _ _ (few tests.before.before.before) (low tests.before.before.before) (sym tests.before.meets.ensures ∙ tests.if3.false)
-    (sym c.before.fault.ensures ∙ c.if4.false)
+    nothing_faulty _ _ _ _ (few c.before.before.before.before.before) (low c.before.before.before.before.before) (sym c.meets.ensures ∙ c.if-meets.false)
+    (sym c.fault.ensures ∙ c.if-fault.false)
 
-pub after-order-spec : {M : Type 1} → statement M
-after-order-spec =
+pub after_order_spec : {M : Type 1} → statement M
+after_order_spec =
     tie.close
     (tie.spec
     count-of-requires

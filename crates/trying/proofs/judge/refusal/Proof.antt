@@ -9,37 +9,35 @@ use borrow.Author.Rules.{rules}
 use Rattle.trying.proofs.judge.refusal.Statement.{statement}
 use Rattle.trying.proofs.judge.refusal.Tie as tie
 
-slice-aggregate-admit : tie.Need-slice-aggregate-admit
+slice-aggregate-admit : tie.Need-slice_bounds-admit-end
 slice-aggregate-admit c = search rules
 
 admit-requires : tie.Need-admit-requires
 admit-requires c κs = search rules
 
-enum-known-k : tie.Need-enum-known-k
+enum-known-k : tie.Need-enum_known-k
 enum-known-k c = search rules
 
-enum-known-b : tie.Need-enum-known-b
+enum-known-b : tie.Need-enum_known-b
 enum-known-b c = search rules
 
-after-order-requires : tie.Need-after-order-requires
+after-order-requires : tie.Need-after_order-requires
 after-order-requires c κs = search rules
 
-returns : tie.Need-returns
+returns : tie.Need-returns-in-Refused
 returns c =
-    let q = c.before.before.before.before.admit in
-    let told = c.before.k.given in
-    not_admitted _ _ _ _ told.0.0 (sym (ap (λ (r : Reading). reading_of r q.new.1.1.0) told.1) ∙ q.ensures)
+    let q = c.admit in
+    not_admitted _ _ _ _ c.in-Refused.k (sym (ap (λ (r : Reading). reading_of r q.new.t) c.in-Refused.is) ∙ q.ensures)
 
-returns-2 : tie.Need-returns-2
+returns-2 : tie.Need-returns-in-Book
 returns-2 c =
-    let q = c.before.before.before.before.before.admit in
-    let told = c.before.before.b.given in
-    c.after-order.ensures
-    ∙ was_admitted _ _ _ _ told.0.0.vars (clauses q.new.1.1.0 told.0.0.clauses)
-    (sym (ap (λ (r : Reading). reading_of r q.new.1.1.0) told.1) ∙ q.ensures)
+    let q = c.admit in
+    c.after_order.ensures
+    ∙ was_admitted _ _ _ _ c.in-Book.b.vars (clauses q.new.t c.in-Book.b.clauses)
+    (sym (ap (λ (r : Reading). reading_of r q.new.t) c.in-Book.is) ∙ q.ensures)
 
-pub refusal-spec : {M : Type 1} → statement M
-refusal-spec =
+pub refusal_spec : {M : Type 1} → statement M
+refusal_spec =
     tie.close
     (tie.spec
     slice-aggregate-admit

@@ -6,16 +6,16 @@ use borrow.Author.Rules.{rules}
 use Rattle.trying.proofs.turn.goes_on.Statement.{statement}
 use Rattle.trying.proofs.turn.goes_on.Tie as tie
 
-is-stop-requires : tie.Need-is-stop-requires
+is-stop-requires : tie.Need-is_stop-requires
 is-stop-requires c κs = search rules
 
-returns : tie.Need-returns
+returns : tie.Need-returns-then-is_stop
 returns c = search rules
 
-returns-2 : tie.Need-returns-2
+returns-2 : tie.Need-returns
 returns-2 c =
-    let a = c.before.before.before.args in
-    sym (ap (λ (b : Bool). not b && not (eqb a.g.setting a.opens)) (sym c.before.before.is_stop.ensures ∙ c.before.if1.false))
+    let a = c.args in
+    sym (ap (λ (b : Bool). not b && not (eqb a.g.setting a.opens)) (sym c.is_stop.ensures ∙ c.if-is_stop.false))
 
-pub goes-on-spec : {M : Type 1} → statement M
-goes-on-spec = tie.close (tie.spec is-stop-requires returns returns-2)
+pub goes_on_spec : {M : Type 1} → statement M
+goes_on_spec = tie.close (tie.spec is-stop-requires returns returns-2)

@@ -5,14 +5,14 @@ use borrow.Author.Rules.{rules}
 use Rattle.trying.proofs.turn.noted.Statement.{statement}
 use Rattle.trying.proofs.turn.noted.Tie as tie
 
-is-can-requires : tie.Need-is-can-requires
+is-can-requires : tie.Need-is_can-requires
 is-can-requires c κs = search rules
 
-returns : tie.Need-returns
-returns c = let a = c.before.before.args in noted_can a.s a.all a.any a.a (sym c.before.is-can.ensures ∙ c.if1.true)
+returns : tie.Need-returns-then-is_can
+returns c = let a = c.args in noted_can a.s a.all a.any a.a (sym c.is_can.ensures ∙ c.if-is_can.true)
 
-returns-2 : tie.Need-returns-2
-returns-2 c = let a = c.before.before.args in noted_other a.s a.all a.any a.a (sym c.before.is-can.ensures ∙ c.if1.false)
+returns-2 : tie.Need-returns
+returns-2 c = let a = c.args in noted_other a.s a.all a.any a.a (sym c.is_can.ensures ∙ c.if-is_can.false)
 
-pub noted-spec : {M : Type 1} → statement M
-noted-spec = tie.close (tie.spec is-can-requires returns returns-2)
+pub noted_spec : {M : Type 1} → statement M
+noted_spec = tie.close (tie.spec is-can-requires returns returns-2)
