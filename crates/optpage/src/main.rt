@@ -2,12 +2,12 @@
 // (crate `page`, `ReadableDecides`), so an input of any length has its own.
 #![tactic(auto)]
 
-use libc::{STDIN_FILENO, STDOUT_FILENO};
+use std::io;
 
-fn main() {
+fn main(rt: HostRuntime) -> io::Result<()> {
     let mut input = reply::input_buffer();
     let mut page = filing::page_buffer();
-    let n = io::read_full(STDIN_FILENO, &mut input);
+    let n = console::read_full(&mut rt.reader(), &mut input)?;
     let size = filing::respond(&input[..n], &mut page);
-    io::write_all(STDOUT_FILENO, &page[..size]);
+    rt.write_all(&page[..size])
 }

@@ -2,54 +2,58 @@
 // byte first. The replies and pages are written one after the other, and `rt ci` holds them to the stored ones.
 #![tactic(auto)]
 
-use libc::{STDIN_FILENO, STDOUT_FILENO};
+use std::io;
+use std::io::Read;
 
 fn length_of(low: u8, high: u8) -> usize {
     low as usize + 256 * (high as usize)
 }
 
-// Writes the reply, and says whether it was written.
-fn reply_to(input: &[u8]) -> bool {
+// Writes the reply.
+fn reply_to(rt: &impl Print, input: &[u8]) -> io::Result<()> {
     let mut text = reply::reply_buffer();
     let n = reply::respond(input, &mut text);
-    io::write_all(STDOUT_FILENO, &text[..n])
+    rt.write_all(&text[..n])
 }
 
-// Writes the page, and says whether it was written.
-fn page_of(input: &[u8]) -> bool {
+// Writes the page.
+fn page_of(rt: &impl Print, input: &[u8]) -> io::Result<()> {
     let mut page = filing::page_buffer();
     let n = filing::respond(input, &mut page);
-    io::write_all(STDOUT_FILENO, &page[..n])
+    rt.write_all(&page[..n])
 }
 
-// What the program of this number writes for an input, and whether there is such a program.
-fn answer_to(program: u8, input: &[u8]) -> bool {
+// Writes what the program of this number writes for an input, and says whether there is such a program.
+fn answer_to(rt: &impl Print, program: u8, input: &[u8]) -> io::Result<bool> {
     match program {
-        0 => reply_to(input),
-        1 => page_of(input),
-        _ => false,
+        0 => reply_to(rt, input)?,
+        1 => page_of(rt, input)?,
+        _ => return Ok(false),
     }
+    Ok(true)
 }
 
 // Reads an input and answers it, and says whether there was one.
-fn answer_next() -> bool {
+fn answer_next<R: Read>(rt: &impl Print, reader: &mut R) -> io::Result<bool> {
     let mut head = [0u8; 3];
-    if io::read_full(STDIN_FILENO, &mut head) < 3 {
-        return false;
+    if console::read_full(reader, &mut head)? < 3 {
+        return Ok(false);
     }
     let length = length_of(head[1], head[2]);
     if length > reply::READABLE {
-        return false;
+        return Ok(false);
     }
     let mut input = reply::input_buffer();
-    io::read_full(STDIN_FILENO, &mut input[..length]);
-    answer_to(head[0], &input[..length])
+    console::read_full(reader, &mut input[..length])?;
+    answer_to(rt, head[0], &input[..length])
 }
 
 // A proved loop has to end, and nothing says that the input does: it counts down from a number that no run uses up.
-fn main() {
+fn main(rt: HostRuntime) -> io::Result<()> {
+    let mut reader = rt.reader();
     let mut left = u64::MAX;
-    while left > 0 && answer_next() {
+    while left > 0 && answer_next(&rt, &mut reader)? {
         left -= 1;
     }
+    Ok(())
 }
