@@ -1,5 +1,5 @@
 -- The demands on the word of an answer, each as a named type that is proved in `proofs/Demands.antt`.
-use Rattle.std.specs.Prelude.{◌≡◌, ◌+◌, ◌*◌, ◌^◌}
+use Rattle.std.specs.Prelude.{◌≡◌}
 use Rattle.answer.specs.Answer.{stop_branchings}
 use Rattle.answer.specs.Packed.{packed, unpacked, Packable}
 use Rattle.answer.specs.declared.Answer.{Answer}

@@ -1,6 +1,6 @@
 -- What the parts of a check know of each other. A book that was admitted is an input of the steps, so its run derives no more than the places and leaves no more
 -- records than options; and the result for it is the check's, since it passed every row before 9.
-use mathlib.Core.Path.{◌≡◌, refl, sym, ap, ap₂, subst, subst⁻¹, ◌∙◌}
+use mathlib.Core.Path.{◌≡◌, refl, sym, ap, ap₂, subst⁻¹, ◌∙◌}
 use mathlib.Core.Bool.{Bool, true, false}
 use mathlib.Core.List.{List, []}
 use Prim.Native.Nat.{ℕ, ◌+◌, ◌≤◌}

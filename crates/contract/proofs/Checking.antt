@@ -1,8 +1,8 @@
 -- A check and its rows. Each row decides its condition, so the first row that holds is at the first condition that does; a check that was run passed every
 -- row, and whether it is run does not depend on the allowance, nor on the tables while they are permitted.
-use mathlib.Core.Path.{◌≡◌, refl, sym, ap, subst, ◌∙◌}
+use mathlib.Core.Path.{◌≡◌, refl, sym, ap, ◌∙◌}
 use mathlib.Core.Bool.{Bool, true, false, not}
-use mathlib.Core.List.{List, [], ◌∷◌, ◌++◌}
+use mathlib.Core.List.{List, [], ◌∷◌}
 use mathlib.Core.Logic.{◌⊎◌, inl, inr}
 use mathlib.Core.Option.{Option, some, none}
 use Prim.Native.Nat.{ℕ, ◌≤◌}
@@ -13,7 +13,7 @@ use Rattle.words.proofs.Truth.{both_ways, clash, or_neither}
 use Rattle.steps.specs.Run.{Outcome}
 use Rattle.order.specs.Order.{Order}
 use Rattle.book.specs.Limits.{max_derived, min_records}
-use Rattle.book.specs.Bytes.{vars_in, rules_in}
+use Rattle.book.specs.Bytes.{vars_in}
 use Rattle.book.specs.Refusals.{row, first_row, admit_rows}
 use Rattle.book.specs.Conditions.{condition, First, Decides, book_conditions, order_conditions, admit_conditions}
 use Rattle.book.proofs.Refusals.{first_none, first_later, none_here, first_among, first_after, none_among, decides_append, first_iff, none_iff, first_number, append_numbers, book_numbers}

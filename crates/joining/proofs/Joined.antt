@@ -25,7 +25,7 @@ use Rattle.book.proofs.Accepted.{bytes_book}
 use Rattle.book.proofs.Encoding.{length_encode}
 use Rattle.renaming.specs.Renaming.{renamed}
 use Rattle.renaming.proofs.Keeping.{literal_below, renamed_same}
-use Rattle.joint.specs.Pairs.{pair_count, option, paired, unpaired_below, place}
+use Rattle.joint.specs.Pairs.{pair_count, paired, unpaired_below, place}
 use Rattle.joint.specs.Join.{Book, book_in, joint_vars, joint_count, joint_rules, joint_bytes, pairs_fault, too_large, Fitting, joint_rows, left_by, join, Joins}
 use Rattle.joint.specs.declared.Joined.{Joined}
 use Rattle.joint.specs.declared.Joined.TheVariants.{Written, Refused}

@@ -12,7 +12,7 @@ use native.Mathlib.Omega.{arith}
 use borrow.Author.Tests.{ltb-true, ltb-false, lt-ltb}
 use lib.Bits.{bit_and, bit_or}
 use lib.Dec.{ltb}
-use lib.ListN.{length, get_or, take, length-append, length-map}
+use lib.ListN.{length, get_or, length-append, length-map}
 use Rattle.words.specs.Words.{has, first_vars}
 use Rattle.words.proofs.Truth.{refuted, iff}
 use Rattle.words.proofs.Membership.{has_and, has_first_vars, ext}

@@ -15,7 +15,7 @@ use Rattle.words.proofs.Truth.{both_ways, clash, confirmed, or_neither, or_eithe
 use Rattle.words.proofs.Membership.{halves_at, odd_of}
 use Rattle.book.specs.Refusals.{first_row, book_rows}
 use Rattle.book.specs.Written.{placed}
-use Rattle.book.specs.Conditions.{condition, First, Decides, book_conditions}
+use Rattle.book.specs.Conditions.{First, Decides, book_conditions}
 use Rattle.book.proofs.Refusals.{decides_append, first_iff, none_iff}
 use Rattle.book.proofs.Conditions.{book_decides}
 use Rattle.joint.specs.Pairs.{pair_count, option, options_of, at_fault, side_fault}

@@ -6,7 +6,7 @@ use Rattle.steps.specs.Clause.{decide}
 use Rattle.steps.specs.State.{undecided, redundant}
 use Rattle.steps.specs.Shape.{Shape, OneOf}
 use Rattle.rows.specs.Values.{assignment_of, sequent_of, env_of}
-use Rattle.rows.specs.Rows.{clause_words, clauses, sequent_words, sequents, state_of, Room}
+use Rattle.rows.specs.Rows.{clause_words, sequent_words, sequents, state_of, Room}
 use Rattle.rows.specs.Index.{tally_words}
 use Rattle.rows.specs.Tally.{TalliedAt}
 use Rattle.rows.specs.declared.clause.Assignment.{Assignment}

@@ -16,7 +16,7 @@ use Rattle.steps.specs.Shape.{Shape}
 use Rattle.steps.proofs.ShapeKeep.{last_recorded}
 use Rattle.steps.proofs.ShapeSides.{undecided_fewer, shape_second}
 use Rattle.rows.specs.Values.{assignment_of, env_of}
-use Rattle.rows.specs.Rows.{clauses, sequents, state_of}
+use Rattle.rows.specs.Rows.{sequents, state_of}
 use Rattle.rows.specs.Tally.{Tallied, TalliedAt}
 use Rattle.merge.specs.Sides.{side_of, TalliedSide}
 use Rattle.search.specs.Needs.{Point, Held}
@@ -29,7 +29,6 @@ use Rattle.merge.specs.declared.Side.TheVariants as side
 use Rattle.rows.specs.declared.state.Counts.{Counts}
 use Rattle.search.proofs.Branching as branching
 use Rattle.search.proofs.Points.{up_point}
-use Rattle.rows.proofs.Tables.{as_many}
 use Rattle.search.proofs.Sides.{Turned, outcome, found, toward, rest, branched, fewer, falls, Opened, First, first_comes, ended_tallied, FirstUp, one_point}
 
 -- the second side opens, with the decisions a₂, the k D-sequents that `without` left in rs₂, and the tallies in q₃. d is the first side's last D-sequent

@@ -12,7 +12,6 @@ use Rattle.contract.specs.Check.{Lengths, check}
 use Rattle.contract.specs.Filled.{Tables, lengths, answer_of, filled, Checked}
 use Rattle.contract.specs.Demands.{first_places}
 use Rattle.contract.proofs.Asked.{counted_same, refused_first, demanded}
-use Rattle.contract.proofs.Demands as contract
 use Rattle.sites.specs.Sites.{Site, Reply, used_in, reply_to, Replies.served}
 use Rattle.sites.specs.Demands.{Used, used_by, Divided, FirstHas, unused_by, allowance_after, Stands, EverySite, AskedWith, EachSingly, Sum, SameReply, OthersNoPart, CarryOver, PartBuys, Buying, Demands}
 use Rattle.sites.proofs.Serving.{used_within, served_with, sites_served, served_are, Own, own_of, placed, twenty_one}

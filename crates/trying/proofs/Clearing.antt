@@ -1,7 +1,7 @@
 -- The tables after a setting: its counts fit them, and cleared of what it wrote they are zero.
 use mathlib.Core.Path.{◌≡◌, refl, ap, subst, subst⁻¹, ◌∙◌}
 use mathlib.Core.List.{List}
-use Prim.Native.Nat.{ℕ, ◌-◌}
+use Prim.Native.Nat.{ℕ}
 use native.Mathlib.Omega.{arith}
 use lib.ListN.{length, length-map}
 use Rattle.steps.specs.Clause.{Clause, DSequent}

@@ -16,7 +16,6 @@ use Rattle.words.specs.Words.{has}
 use Rattle.words.proofs.Truth.{both_ways, or_either}
 use Rattle.words.proofs.Membership.{has_zero}
 use Rattle.steps.specs.Clause.{Clause}
-use Rattle.steps.specs.State.{Ending.cannot}
 use Rattle.steps.specs.Run.{Outcome, everything, run}
 use Rattle.steps.specs.Marked as marked
 use Rattle.steps.specs.Worst.{Arranged}

@@ -1,7 +1,7 @@
 -- `merge::learn` meets its contract. The clause that is found to cover is the definition's. Where none is, the test of the count against the capacity is
 -- the definition's on the length of the table, and the two words stored after the last clause are the clause that the definition adds (`put_clause_at_end`).
 -- The list stays, so the tallies are added to at its last set. Assumes nothing.
-use mathlib.Core.Path.{◌≡◌, ap, sym, ◌∙◌, subst, subst⁻¹}
+use mathlib.Core.Path.{◌≡◌, ap, sym, ◌∙◌, subst}
 use mathlib.Core.Bool.{true, false}
 use mathlib.Core.List.{List}
 use mathlib.Core.Option.{Option, none}

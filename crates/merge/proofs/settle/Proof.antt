@@ -6,7 +6,7 @@ use Rattle.words.specs.Words.{is_zero}
 use Rattle.words.proofs.Sets.{nonzero}
 use Rattle.words.proofs.Truth.{when_true, when_false}
 use Rattle.steps.specs.Clause.{vars}
-use Rattle.steps.specs.State.{Side.up, undecided, redundant}
+use Rattle.steps.specs.State.{Side.up, redundant}
 use Rattle.steps.proofs.ShapeKeep.{append_redundant}
 use Rattle.rows.specs.Values.{clause_of, assignment_of}
 use Rattle.rows.specs.Rows.{state_of}

@@ -1,6 +1,6 @@
 -- `merge::test` meets its contract: what the look-ups find are the lowest-numbered clauses in play with v's two literals, and what comes of them is the definition's
 -- (`passes_negative`, `passes_positive`, `resolves`). Assumes nothing.
-use mathlib.Core.Path.{◌≡◌, sym, ap, ◌∙◌, subst⁻¹}
+use mathlib.Core.Path.{◌≡◌, sym, ap, ◌∙◌}
 use mathlib.Core.Bool.{Bool, true, false}
 use borrow.Author.Rules.{rules}
 use Rattle.steps.specs.Lists.{find}
@@ -9,7 +9,6 @@ use Rattle.steps.specs.State.{Side.up, redundant}
 use Rattle.steps.specs.Notes.{in_play, gather}
 use Rattle.steps.specs.Sweep.{strike}
 use Rattle.steps.specs.Merge.{cover, learn}
-use Rattle.steps.specs.Shape.{Proper}
 use Rattle.rows.specs.Values.{assignment_of, env_of, found_of}
 use Rattle.rows.specs.Rows.{state_of}
 use Rattle.rows.specs.Tally.{Variable}

@@ -1,10 +1,8 @@
 -- `narrowing::narrow` meets its contract. The loop's invariant: of the first i clauses the open ones stand in the table. The measure is how many are left. Assumes nothing.
 use mathlib.Core.Path.{◌∙◌}
-use mathlib.Core.Logic.{⊎_elim}
 use Prim.Native.Nat.{◌-◌, ◌≤◌}
 use native.Mathlib.Omega.{arith}
 use borrow.Author.Rules.{rules}
-use borrow.Author.Tests.{not-true, not-false}
 use Rattle.narrowing.proofs.Opens.{Through, through_none, through_kept, through_open, through_all}
 use Rattle.narrowing.proofs.narrow.Statement.{statement}
 use Rattle.narrowing.proofs.narrow.Lts.{then-not-is_kept, else-not-is_kept}

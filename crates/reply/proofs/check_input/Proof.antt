@@ -8,7 +8,7 @@ use lib.ListN.{length, take, drop}
 use Rattle.order.specs.Order.{Order}
 use Rattle.answer.specs.declared.Answer.{Answer}
 use Rattle.answer.specs.declared.Answer.TheVariants.{Refused}
-use Rattle.contract.specs.Check.{Result, check}
+use Rattle.contract.specs.Check.{Result}
 use Rattle.contract.specs.Filled.{Tables, lent, lengths, answer_of, filled, Checked}
 use borrow.Author.Rules.{rules}
 use Rattle.reply.specs.Reply.{allowance, order_bytes, order_in, Answered}

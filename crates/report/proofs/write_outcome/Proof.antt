@@ -1,6 +1,6 @@
 -- `report::write_outcome` meets its contract. The text has room, since it is at most as long as the bound. Its three parts, the first line, the clauses' lines and the records'
 -- lines, are written one after the other, with the number and the counts that the calls read off the answer. Assumes nothing.
-use mathlib.Core.Path.{◌≡◌, refl, ap, ap₂, subst⁻¹}
+use mathlib.Core.Path.{refl, ap, ap₂, subst⁻¹}
 use mathlib.Core.List.{List}
 use Prim.Native.Nat.{ℕ}
 use native.Mathlib.Omega.{arith}

@@ -2,7 +2,6 @@
 use mathlib.Core.Path.{◌≡◌, sym, ap, ◌∙◌}
 use Prim.Native.Nat.{ℕ}
 use borrow.Author.Rules.{rules}
-use borrow.Author.Tests.{not-true, not-false}
 use Rattle.words.specs.Words.{meets, lowest}
 use Rattle.steps.specs.Clause.{literals}
 use Rattle.steps.proofs.Notes.{without_literal, naming_redundant, adds_keeper}

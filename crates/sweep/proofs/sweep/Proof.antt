@@ -9,8 +9,8 @@ use borrow.Author.Rules.{rules}
 use lib.Count.{ones}
 use lib.ListN.{length}
 use Rattle.words.specs.Words.{members}
-use Rattle.steps.specs.Clause.{DSequent, last}
-use Rattle.steps.specs.State.{State, redundant, live, append}
+use Rattle.steps.specs.Clause.{DSequent}
+use Rattle.steps.specs.State.{State, redundant, live}
 use Rattle.steps.specs.Notes.{Notes, notes, choice, gather, found_by}
 use Rattle.steps.specs.Sweep.{variable, strike, sweep}
 use Rattle.steps.proofs.ShapeKeep.{append_redundant}

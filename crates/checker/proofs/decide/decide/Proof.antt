@@ -3,7 +3,7 @@
 use mathlib.Core.Path.{subst}
 use native.Mathlib.Omega.{arith}
 use Prim.Native.Nat.{◌+◌, ◌≤◌}
-use Rattle.steps.specs.Run.{Outcome, given}
+use Rattle.steps.specs.Run.{Outcome}
 use Rattle.rows.specs.Rows.{clauses}
 use Rattle.book.specs.Limits.{max_vars, max_clauses}
 use Rattle.order.specs.Values.{assumptions_of}

@@ -1,7 +1,6 @@
 -- `joining::pairs::partner_or` meets its contract. The loop's invariant: what was found so far is what the pairs passed give. The measure is how many pairs are left.
 -- Assumes nothing.
 use mathlib.Core.Path.{◌≡◌, ◌∙◌}
-use mathlib.Core.Logic.{⊎_elim}
 use Prim.Native.Nat.{◌-◌, ◌≤◌}
 use native.Mathlib.Omega.{arith}
 use borrow.Author.Rules.{rules}

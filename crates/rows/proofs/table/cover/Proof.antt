@@ -2,7 +2,6 @@
 -- invariant: the walk stands at a clause in play or has come to its end, and no clause below it covers c. So the clause at which it stands is the first that does, where it
 -- does, and where the loop ends none does. The measure is how many clauses are left. Assumes nothing.
 use mathlib.Core.Path.{◌≡◌, sym, ap, ◌∙◌}
-use mathlib.Core.Logic.{⊎_elim}
 use mathlib.Core.Bool.{true, false}
 use mathlib.Core.Option.{some}
 use Prim.Native.Nat.{ℕ, ◌-◌}

@@ -2,7 +2,6 @@
 -- play or has come to its end, and no clause below it both names v and is falsified. So the clause at which it stands is the first that passes both tests, where it does, and
 -- where the loop ends none does. The measure is how many clauses are left. Assumes nothing.
 use mathlib.Core.Path.{◌≡◌, sym, ap, ◌∙◌}
-use mathlib.Core.Logic.{⊎_elim}
 use mathlib.Core.Bool.{false, ◌&&◌, and-false}
 use mathlib.Core.Option.{some}
 use Prim.Native.Nat.{ℕ, ◌-◌}

@@ -3,12 +3,9 @@
 -- variables: either side decides one more. Assumes nothing.
 use mathlib.Core.Path.{◌≡◌, refl, ap, sym, ◌∙◌, subst}
 use mathlib.Core.Bool.{Bool}
-use mathlib.Core.List.{List, [], ◌∷◌}
-use mathlib.Core.Logic.{⊎_elim}
+use mathlib.Core.List.{List}
 use Prim.Native.Nat.{ℕ, ◌<◌}
 use native.Mathlib.Omega.{arith}
-use types.Run.{OneOf}
-use denote.Enum.Declared.{tag_of}
 use lib.Count.{ones}
 use borrow.Author.Rules.{rules}
 use borrow.Fn.Kinds.{In}
@@ -26,7 +23,6 @@ use Rattle.search.proofs.Points.{ready}
 use Rattle.sweep.proofs.Points.{list_fits}
 use Rattle.search.proofs.Sides.{Turned, branched, free, deciding, here_fits, spent, Opened, first_falls, first_point, first_held, First, first_ended, FirstUp, one_point, up_tallied, turning}
 use Rattle.search.proofs.Seconds.{Crossed, second_falls, second_point, second_held, Second, tables_same, lists_same, tallies_same, second_ended, mergeable, merging, merged}
-use Rattle.enter.specs.contracts.Turn.{the_type}
 use Rattle.search.proofs.branch.branch.Reads as branch-reads
 use Rattle.search.proofs.branch.branch.Kinds as branch-kinds
 use Rattle.search.proofs.branch.+branch.Lts-branch as lts

@@ -1,13 +1,9 @@
 -- `search::run::ended` meets its contract: every ending but "cannot" hands out the list as it is, and "cannot" that of `everything`. Assumes nothing.
 use mathlib.Core.Path.{◌≡◌, refl, ap, ap₂, sym, subst, ◌∙◌}
-use mathlib.Core.List.{List, [], ◌∷◌}
-use mathlib.Core.Logic.{⊎_elim}
+use mathlib.Core.List.{List}
 use Prim.Native.Nat.{ℕ}
-use native.Mathlib.Omega.{arith}
 use borrow.Author.Rules.{rules}
 use lib.ListN.{drop}
-use denote.Enum.Declared.{tag_of}
-use types.Run.{OneOf}
 use Rattle.steps.specs.Clause.{Assignment, DSequent}
 use Rattle.steps.specs.State.{State, Side.ended}
 use Rattle.steps.specs.Run.{Outcome, outcome, finish}
@@ -17,7 +13,6 @@ use Rattle.search.specs.Values.{Handed}
 use Rattle.merge.specs.declared.Ending.{Ending}
 use Rattle.merge.specs.declared.Ending.TheVariants as ending
 use Rattle.search.proofs.Handing.{handed}
-use Rattle.merge.specs.contracts.Ending.{the_type}
 use Rattle.search.proofs.run.ended.Statement.{statement}
 use Rattle.search.proofs.run.ended.Tie as tie
 

@@ -1,5 +1,5 @@
 -- `search::run::finish` meets its contract: the code goes by the side, as the definition does. Assumes nothing.
-use mathlib.Core.Path.{◌≡◌, ap, sym, subst, ◌∙◌}
+use mathlib.Core.Path.{ap, sym, subst}
 use borrow.Author.Rules.{rules}
 use Rattle.steps.specs.State.{Ending.can}
 use Rattle.steps.specs.Run.{Outcome, finish}

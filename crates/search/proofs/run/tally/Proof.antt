@@ -3,7 +3,6 @@ use mathlib.Core.Path.{◌≡◌, ap}
 use Prim.Native.Nat.{ℕ, ◌-◌}
 use native.Mathlib.Omega.{arith}
 use borrow.Author.Rules.{rules}
-use Rattle.answer.specs.declared.Tally.{Tally}
 use Rattle.search.proofs.run.tally.Statement.{statement}
 use Rattle.search.proofs.run.tally.Tie as tie
 
