@@ -1,5 +1,5 @@
 //! Rattle source as Rust. The text of the engine is nearly Rust: what is only there for the proofs
-//! goes, types can be copied, and around each function that the watcher is told of there is one of
+//! goes, types can be compared and shown, and around each function that the watcher is told of there is one of
 //! its name that tells it. A source that does not have the form that is known is an error. The build
 //! script uses this file.
 
@@ -7,6 +7,12 @@ use crate::watched::Watched;
 
 /// The first line of a function that tells the watcher.
 pub const TELLING: &str = "use crate::tell::*;";
+
+/// The line of a crate's root that asks the prover for its tactics.
+const TACTICS: &str = "#![tactic(auto)]";
+
+/// What stands above each type of the engine: here it can also be compared and shown.
+const COPIED: &str = "#[derive(Clone, Copy)]";
 
 /// The modules that a source declares.
 pub fn modules(source: &str) -> Vec<&str> {
@@ -55,6 +61,7 @@ fn rust(line: &str, crates: &[&str]) -> Result<String, String> {
     let item = line.strip_prefix("pub ").unwrap_or(line);
     Ok(match first {
         "ghost" | "requires" | "ensures" => String::new(),
+        _ if [TACTICS, COPIED].contains(&code) => String::new(),
         _ if declared(line).is_some() => String::new(),
         _ if item.starts_with("struct ") || item.starts_with("enum ") => {
             format!("#[derive(Clone, Copy, Debug, PartialEq)]\n{line}\n")
@@ -96,9 +103,12 @@ mod tests {
 
     const SWEEP: &str = "\
 // Rounds: λ.
-ghost use lib.Count.{ones};
+#![tactic(auto)]
+
+ghost use Rattle.std.specs.Int.Count.{ones};
 use rows::clause;
 
+#[derive(Clone, Copy)]
 struct Noted {
     pub pos: u64,
 }
@@ -108,8 +118,8 @@ fn strike(
     m: usize,
     w: u64,
 ) -> Noted
-    requires { ⌜ w < 64 ⌝ }
-    ensures { λ r. ⌜ r ≡ w ⌝ }
+    requires { w < 64 }
+    ensures { result ≡ w }
 {
     tallies::strike(q, m, w);
     Noted { pos: 0 }
@@ -141,6 +151,7 @@ pub fn sweep(t: &[u64], q: &mut [u64], a: Assignment)
 
     const RUST: &str = "\
 // Rounds: λ.
+
 use rows::clause;
 
 #[derive(Clone, Copy, Debug, PartialEq)]
@@ -212,10 +223,10 @@ pub fn sweep(t: &[u64], q: &mut [u64], a: Assignment)
     #[test]
     fn a_line_of_another_form_is_named() {
         for (part, other, line) in [
-            ("{ones};", "ones", "line 2: `ghost use lib.Count.ones`"),
-            ("w < 64 ⌝ }", "w < 64", "line 14: `requires { ⌜ w < 64`"),
-            ("    Noted {", "    ghost let {", "line 18: `ghost let { pos: 0 }`"),
-            ("pos: 0", "pos: ν", "line 18: `Noted { pos: ν }`"),
+            ("{ones};", "ones", "line 4: `ghost use Rattle.std.specs.Int.Count.ones`"),
+            ("w < 64 }", "w < 64", "line 17: `requires { w < 64`"),
+            ("    Noted {", "    ghost let {", "line 21: `ghost let { pos: 0 }`"),
+            ("pos: 0", "pos: ν", "line 21: `Noted { pos: ν }`"),
         ] {
             assert_eq!(refused(part, other), format!("{line} is not of the form that is known"));
         }
@@ -224,6 +235,6 @@ pub fn sweep(t: &[u64], q: &mut [u64], a: Assignment)
     #[test]
     fn a_crate_that_is_not_translated_is_named() {
         let told = refused("use rows::", "use book::");
-        assert_eq!(told, "line 3: the crate `book` is not translated");
+        assert_eq!(told, "line 5: the crate `book` is not translated");
     }
 }
