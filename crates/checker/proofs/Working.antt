@@ -9,7 +9,7 @@ use lib.ListN.{length, length-append}
 use Rattle.words.proofs.Truth.{when_true, when_false}
 use Rattle.steps.specs.Clause.{Clause}
 use Rattle.steps.specs.Run.{Assumptions, Outcome, units, given, no_decisions, start, finish, searched, run}
-use Rattle.steps.specs.Search.{search as searchFrom}
+use Rattle.steps.specs.Search.{search as search_from}
 use Rattle.steps.specs.Shape.{AllProper}
 use Rattle.steps.proofs.ShapeStart.{given_proper}
 use Rattle.steps.proofs.Allowances.{stops_spent}
@@ -64,10 +64,10 @@ module _ (b : Book) (o : Assumptions) (t : List ℕ) (w : Workable b o t) where
 -- the engine's run on the given clauses is the definition's
 pub run_is :
     (n : ℕ) (cs : List Clause) (o : Assumptions) (allowance places m : ℕ) (g : List Clause) → m ≡ length (given cs o) → g ≡ given cs o →
-    finish n m (searchFrom (record { n = n; allowance = allowance; capacity = m + places }) n no_decisions 0 (start g)) ≡ run n cs o allowance places
+    finish n m (search_from (record { n = n; allowance = allowance; capacity = m + places }) n no_decisions 0 (start g)) ≡ run n cs o allowance places
 unfolding run searched
 run_is n cs o allowance places m g e f =
-    ap₂ (λ (k : ℕ) (l : List Clause). finish n k (searchFrom (record { n = n; allowance = allowance; capacity = k + places }) n no_decisions 0 (start l))) e f
+    ap₂ (λ (k : ℕ) (l : List Clause). finish n k (search_from (record { n = n; allowance = allowance; capacity = k + places }) n no_decisions 0 (start l))) e f
 
 -- ---- handing out
 

@@ -16,7 +16,7 @@ use Rattle.steps.specs.Run.{Outcome, run}
 use Rattle.steps.specs.Meaning.{Buildable}
 use Rattle.steps.specs.Demands as steps
 use Rattle.steps.proofs.Allowances as allowances
-use Rattle.steps.proofs.Bound as steps-bound
+use Rattle.steps.proofs.Bound as steps_bound
 use Rattle.order.specs.Order.{Order, complete}
 use Rattle.book.specs.Bytes.{vars_in, rules_in, encode}
 use Rattle.book.specs.Refusals.{first_row, rule_rows, order_rows, admit_rows}
@@ -269,7 +269,7 @@ bound bytes o l h =
     let n = vars_in bytes in
     let always : (allowance : ℕ) → check bytes o allowance l ≡ ran (outcome bytes o allowance l) = λ allowance. (runs bytes o allowance l _).1 (h, refl) in
     let p = ran_passed bytes o 0 l _ (always 0) in
-    let b = steps-bound.always_enough n (rules_in bytes) (complete o) (admitted_input bytes o p.admitted) in
+    let b = steps_bound.always_enough n (rules_in bytes) (complete o) (admitted_input bytes o p.admitted) in
     record {
       enough = λ allowance g f. verdict_answer bytes o allowance l _ (always allowance) (b.enough allowance l.pos g f);
       to_eleven =

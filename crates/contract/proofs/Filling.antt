@@ -13,7 +13,7 @@ use Rattle.steps.specs.Run.{Outcome}
 use Rattle.steps.specs.Shape.{Input}
 use Rattle.steps.specs.Demands.{Right, Spent}
 use Rattle.steps.proofs.Soundness.{demand2}
-use Rattle.steps.proofs.Allowances.{stops_spent as run-spent}
+use Rattle.steps.proofs.Allowances.{stops_spent as run_spent}
 use Rattle.order.specs.Order.{Order, complete}
 use Rattle.book.specs.Bytes.{vars_in, rules_in}
 use Rattle.book.specs.Refusals.{first_row, admit_rows}
@@ -121,7 +121,7 @@ module _ (bytes : List ℕ) (o : Order) (allowance : ℕ) (l : Lengths) (r : Out
       subst
       (Spent allowance l.pos)
       (sym p.by_the_steps)
-      (run-spent (vars_in bytes) (rules_in bytes) (complete o) (admitted_input bytes o p.admitted) _ _)
+      (run_spent (vars_in bytes) (rules_in bytes) (complete o) (admitted_input bytes o p.admitted) _ _)
 
   -- at most 64 records
   pub ran_records : length r.records ≤ 64

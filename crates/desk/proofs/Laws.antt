@@ -11,12 +11,19 @@ use Rattle.words.specs.Words.{digit, has, minus}
 use Rattle.words.proofs.Truth.{both_ways}
 use Rattle.drafts.specs.declared.Desk.{Desk}
 use Rattle.drafts.specs.declared.Done.{Done}
-use Rattle.drafts.specs.Desk.{Call, Call.set, Call.clear, Call.keep, Call.return, among, options_of, option_refusal, number_refusal, return_refusal, refusal, with_order, altered, done}
+use Rattle.drafts.specs.Desk.{Call, Call.set, Call.clear, Call.keep, Call.return, empty_desk, fresh, among, options_of, option_refusal, number_refusal, return_refusal, refusal, with_order, altered, done}
 use Rattle.drafts.proofs.Calls.{among_or, option_by, number_by, return_by, after_accepted, after_refused, option_or}
-use Rattle.drafts.proofs.Runs.{not_outside, not_above}
+use Rattle.drafts.proofs.Runs.{fresh_few, fresh_many, not_outside, not_above}
 
 abbrev pub done_of : Desk → ℕ → Done
 done_of d r = record { desk = d; answer = r }
+
+-- a fresh desk of too many options, and of no more than it may have
+pub too_many : (n : ℕ) (d : Desk) → 64 < n → d ≡ empty_desk 0 → ◌≡◌ {A = Done} (record { desk = d; answer = 2 }) (fresh n)
+too_many n d h e = ap (λ (x : Desk). done_of x 2) e ∙ sym (fresh_many n h)
+
+pub not_too_many : (n : ℕ) (d : Desk) → n ≤ 64 → d ≡ empty_desk n → ◌≡◌ {A = Done} (record { desk = d; answer = 0 }) (fresh n)
+not_too_many n d h e = ap (λ (x : Desk). done_of x 0) e ∙ sym (fresh_few n h)
 
 -- a refused call
 pub refused_as : (d : Desk) (c : Call) (r : ℕ) → r ≡ refusal d c → r ≢ 0 → done_of d r ≡ done d c

@@ -14,6 +14,7 @@ mod calls;
 const TOO_MANY: u32 = 2;
 
 // A fresh desk for so many options: an empty order, and no draft kept. It is refused for more than 64, and the desk is the fresh one for none.
+#[tactic(auto, using(crate::proofs::Laws::too_many, crate::proofs::Laws::not_too_many))]
 pub fn fresh(options: u32) -> Done
     ensures { result ≡ definition.fresh options }
 {

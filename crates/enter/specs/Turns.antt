@@ -3,7 +3,7 @@ use Rattle.std.specs.Prelude.{List, ℕ}
 use Rattle.steps.specs.Enter as step
 use Rattle.steps.specs.Enter.{Turn.back, Turn.satisfiable, Turn.branch}
 use Rattle.words.specs.Words.{Within}
-use Rattle.steps.specs.State.{undecided as undecidedAt}
+use Rattle.steps.specs.State.{undecided as undecided_at}
 use Rattle.rows.specs.Values.{assignment_of, env_of}
 use Rattle.rows.specs.Rows.{state_of}
 use Rattle.rows.specs.Tally.{Tallied}
@@ -26,5 +26,5 @@ counts_of (turn.Branch v b s) = s
 
 -- the tallies are those of the struck set k, of undecided variables
 pub record Entering (t q : List ℕ) (e : Env) (a : Assignment) (k : ℕ) (s : Counts) : Type 0 where
-  pub undecided : Within k (undecidedAt (env_of e) (assignment_of a))
+  pub undecided : Within k (undecided_at (env_of e) (assignment_of a))
   pub tallied : Tallied t q s.clauses (assignment_of a) k

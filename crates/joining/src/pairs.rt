@@ -1,6 +1,6 @@
 // The pairs: judging them, and the places that they give to the second book's options.
 ghost use Rattle.std.specs.Prelude.{◌≡◌, ℕ, ◌≤◌, ◌<◌, get_or};
-ghost use Rattle.joint.specs.Pairs.{pair_count, option, options_of, at_fault, side_fault, partner_or, paired as pairedIn, place};
+ghost use Rattle.joint.specs.Pairs.{pair_count, option, options_of, at_fault, side_fault, partner_or, paired as paired_in, place};
 ghost use Rattle.joint.specs.Join.{pairs_fault};
 ghost use Rattle.joining.specs.Promises.{judged_as, NoneZero};
 
@@ -55,7 +55,7 @@ fn side_of(n: u32, pairs: &[u8], side: usize) -> Paired
 // The second book's paired options, or that a pair is at fault: the books have n and m options.
 pub fn judge(n: u32, m: u32, pairs: &[u8]) -> Paired
     requires { (n ≤ 64) × (m ≤ 64) }
-    ensures { result ≡ judged_as (pairs_fault n m pairs.now) (pairedIn pairs.now) }
+    ensures { result ≡ judged_as (pairs_fault n m pairs.now) (paired_in pairs.now) }
 {
     if pairs.len() % 2 != 0 {
         return Paired::Fault;
@@ -85,7 +85,7 @@ fn partner_or(d: u32, pairs: &[u8], k: u32) -> u32
 
 // The places of the second book's m options, whose paired ones are `paired`, after a first book of n options.
 pub fn places(n: u32, m: u32, pairs: &[u8], paired: u64) -> [u32; 64]
-    requires { (n ≤ 64) × (m ≤ 64) × (paired ≡ pairedIn pairs.now) × NoneZero pairs.now }
+    requires { (n ≤ 64) × (m ≤ 64) × (paired ≡ paired_in pairs.now) × NoneZero pairs.now }
     ensures { (k : ℕ) → k < m → get_or result k 0 ≡ place n pairs.now k }
 {
     let mut places = [0u32; 64];

@@ -122,6 +122,6 @@ demands =
       without_standard = without_standard;
       keeping = keeping;
       order_rules = order_rules;
-      free_options_lem = free_options_lem;
+      free_options = free_options_lem;
       examples = examples;
     }

@@ -77,5 +77,5 @@ pub record Demands : Type 0 where
   pub without_standard : WithoutStandard
   pub keeping : Keeping
   pub order_rules : OrderRules
-  pub free_options_lem : FreeOptions
+  pub free_options : FreeOptions
   pub examples : Examples

@@ -154,7 +154,7 @@ Taking =
 
 -- pages and lines written out
 pub record Examples : Type 0 where
-  -- the example of docs/FORMAT.md: a verdict, a fitted entry, a left_out one, and the empty rule
+  -- the example of docs/FORMAT.md: a verdict, a fitted entry, a left-out one, and the empty rule
   pub documented :
       page_to (input_of (0 ∷ 0 ∷ 0 ∷ []) 2 4 (3 ∷ 2 ∷ 1 ∷ 0 ∷ 0 ∷ 1 ∷ 2 ∷ 3 ∷ [])) ≡
       ascii "cannot             0         3         3\n   1 1                                  \n   2 -1                                 \n   3 none                               \n"

@@ -26,7 +26,7 @@ entries_from (suc k) v c = entry_at v (has c.pos v) (has c.neg v) ++ entries_fro
 abbrev pub entries : Clause → List Entry
 entries c = entries_from max_vars 0 c
 
--- the sign of an entry: a minus before a left_out one
+-- the sign of an entry: a minus before a left-out one
 abbrev pub sign : Bool → List ℕ
 sign true = []
 sign false = ascii "-"

@@ -6,7 +6,7 @@ ghost use Rattle.words.specs.Words.{members};
 ghost use Rattle.order.specs.Values.{order_of};
 ghost use Rattle.rows.specs.Rows.{clause_words, clauses as Clauses};
 ghost use Rattle.book.specs.Values.{Held};
-ghost use Rattle.turns.specs.Turns.{Answers, Player.buyer, forces, given, response as theResponse, responses as theResponses};
+ghost use Rattle.turns.specs.Turns.{Answers, Player.buyer, forces, given, response as the_response, responses as the_responses};
 ghost use Rattle.turns.specs.Handed.{response_number};
 ghost use Rattle.playing.specs.Promises.{wins_in, Playable, PlaysBook, Tells, Forced};
 
@@ -79,7 +79,7 @@ fn tell(t: &[u64], g: Given, free: u64) -> Turns
 // The planner's answers to the buyer's two choices on the first free option.
 fn responses(t: &[u64], g: Given, free: u64) -> Responses
     requires { Playable g t.now }
-    ensures { result ≡ theResponses (wins_in t.now g) (members free) g.order.pos }
+    ensures { result ≡ the_responses (wins_in t.now g) (members free) g.order.pos }
 {
     if free == 0 {
         return Responses {
@@ -98,7 +98,7 @@ fn responses(t: &[u64], g: Given, free: u64) -> Responses
 // The planner's answer on the first of the options that are left.
 fn respond(t: &[u64], g: Given, free: u64, fitted: u64) -> Response
     requires { Playable g t.now }
-    ensures { result ≡ theResponse (wins_in t.now g) (members free) fitted }
+    ensures { result ≡ the_response (wins_in t.now g) (members free) fitted }
 {
     if free == 0 {
         return Response::None;
@@ -131,7 +131,7 @@ fn serves(t: &[u64], g: Given, left: u64, fitted: u64) -> bool
 // Whether the planner can force it, where `r` has his answers. With two free options or more he can exactly if he has both answers.
 fn forced(t: &[u64], g: Given, free: u64, r: Responses) -> bool
     requires clauses_in_bounds { clause_words g.clauses ≤ length t.now }
-    requires r_value { r ≡ theResponses (wins_in t.now g) (members free) g.order.pos }
+    requires r_value { r ≡ the_responses (wins_in t.now g) (members free) g.order.pos }
     ensures { Forced (wins_in t.now g) free g.order.pos result }
 {
     if words::count_of(free) < 2 {

@@ -2,9 +2,9 @@
 use Rattle.std.specs.Prelude.{List, [], ◌∷◌, ℕ}
 use Prim.Native.Char.{code}
 use Prim.Native.String.{String}
-use Prim.Native.String.{[] as no-characters, ◌∷◌ as ◌and◌}
+use Prim.Native.String.{[] as no_characters, ◌∷◌ as ◌and◌}
 
 -- the codes of the characters of a text
 abbrev pub ascii : String → List ℕ
-ascii no-characters = []
+ascii no_characters = []
 ascii (c and cs) = code c ∷ ascii cs

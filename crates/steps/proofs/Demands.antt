@@ -16,7 +16,7 @@ use Rattle.steps.proofs.Parents.{never_deeper, parents_exist}
 use Rattle.steps.proofs.Covers.{covering}
 use Rattle.steps.proofs.Resolving.{resolving}
 use Rattle.steps.proofs.NeverCovered.{never_covered}
-use Rattle.steps.proofs.FullClauses.{every_rule}
+use Rattle.steps.proofs.FullClauses.{all_rules_lem}
 use Rattle.steps.proofs.Worst.{worst_book}
 
 pub demands : Demands
@@ -45,8 +45,8 @@ demands =
       never_covered = never_covered;
       by_tally = by_tally;
       tallying = tallying;
-      tallies_left_lem = tallies_left_lem;
-      every_rule = every_rule;
+      tallies_left = tallies_left_lem;
+      all_rules = all_rules_lem;
       worst_book = worst_book;
       marked_cases = marked_cases;
       further_cases = further_cases;

@@ -121,9 +121,9 @@ below_distinct n (suc m) =
     omega (arith, listed_below m from.0 from.1)))
 
 -- the list is as it should be
-pub every_rule : AllRules
+pub all_rules_lem : AllRules
 unfolding all_rules
-every_rule n =
+all_rules_lem n =
     record {
       just = λ c. (listed_full n c, full_listed n c);
       many = length-map (below (2 ^ n)) (forbidding n) ∙ below_many (2 ^ n);
@@ -150,7 +150,7 @@ permuted_many (Permᴰ.trans p q) = permuted_many p ∙ permuted_many q
 
 -- so such a book has 2^n clauses, every full one, and no other
 pub arranged_many : (n : ℕ) (book : List Clause) → Arranged n book → length book ≡ 2 ^ n
-arranged_many n book p = sym (permuted_many p) ∙ (every_rule n).many
+arranged_many n book p = sym (permuted_many p) ∙ (all_rules_lem n).many
 
 pub arranged_every : (n : ℕ) (book : List Clause) → Arranged n book → (c : Clause) → Full n c → Memᴰ c book
 arranged_every n book p c f = permuted p c (full_listed n c f)

@@ -8,4 +8,4 @@ use Rattle.steps.specs.Demands.{NotesTaken}
 
 pub notes_taken : NotesTaken
 unfolding minus meets lowest members_up_to members vars keepers satisfied names inactive note walk notes choice keeper gather rounds undecided live first_vars
-notes_taken = record { one_rule = refl; by_fitted = refl; no_rule = refl; by_left_out = refl; every_rule = refl; none_picked = refl; in_turn = refl }
+notes_taken = record { one_rule = refl; by_fitted = refl; no_rule = refl; by_left_out = refl; all_rules = refl; none_picked = refl; in_turn = refl }

@@ -209,7 +209,7 @@ pub record NotesTaken : Type 0 where
   pub no_rule : notes (record { decided = 1; trues = 1 }) 4 N ≡ record { pos = 0; neg = 0 }
   pub by_left_out : picked (record { decided = 1; trues = 1 }) (struck N 4) (members 10) ≡ variable 2 0
   -- nothing is decided and nothing struck, so that no rule is out. Options 2 and 3 have both entries noted, and of them none is picked
-  pub every_rule : notes no_decisions 0 N ≡ record { pos = 15; neg = 6 }
+  pub all_rules : notes no_decisions 0 N ≡ record { pos = 15; neg = 6 }
   pub none_picked : picked no_decisions (struck N 0) (members 6) ≡ nothing
   -- the sweep strikes option 1 first. With that 1 or 2 is out, so that option 2 passes in the next round, and so on
   pub in_turn :
@@ -387,8 +387,8 @@ pub record Demands : Type 0 where
   pub never_covered : NeverCovered
   pub by_tally : ByTally
   pub tallying : Tallying
-  pub tallies_left_lem : TalliesLeft
-  pub every_rule : AllRules
+  pub tallies_left : TalliesLeft
+  pub all_rules : AllRules
   pub worst_book : WorstBook
   pub marked_cases : MarkedCases
   pub further_cases : FurtherCases

@@ -32,7 +32,7 @@ use Rattle.turns.specs.declared.Response.{Response}
 use Rattle.turns.specs.declared.Response.TheVariants.{Out, Fitted, None}
 use Rattle.turns.proofs.Listing.{is_free, free_options_lem}
 use Rattle.turns.proofs.Judging.{forced_now, its_answers, admitted, forced_iff, open_iff, forced_passes, answers_pass, answers_are, refusals, named_refusal}
-use Rattle.turns.proofs.Turning.{forces_end, wins_builds, turn_by_turn as turns-hold, some_end, response_some, responses_none, responses_some, right_serving, both_given, given_iff, no_second as none-second}
+use Rattle.turns.proofs.Turning.{forces_end, wins_builds, turn_by_turn as turns_hold, some_end, response_some, responses_none, responses_some, right_serving, both_given, given_iff, no_second as none_second}
 use Rattle.turns.proofs.Rounds.{turn_at, after_two_lem, at_start}
 use Rattle.turns.proofs.Ways.{SoFar, settle, ways}
 use Rattle.turns.proofs.Plays.{one_play}
@@ -98,7 +98,7 @@ module _ (bytes : List ℕ) (o : Order) (passes : NoRow (turns_conditions bytes 
 
   by_turns : IsForced bytes o ↔ Forces (Builds n cs (complete o)) buyer (free_options bytes o) (complete o).pos
   by_turns =
-      let t = turns-hold n cs (complete o) buyer (free_options bytes o) (complete o).pos (free_within n o) wanted_within in
+      let t = turns_hold n cs (complete o) buyer (free_options bytes o) (complete o).pos (free_within n o) wanted_within in
       let i = forced_iff bytes o passes in
       (λ x. t.0 (i.0 x), λ g. i.1 (t.1 g))
 
@@ -197,7 +197,7 @@ no_second bytes o r are few = answers_are bytes o r are ∙ go (free_options byt
   where
     go : (us : List ℕ) → length us < 2 → responses (wins (rules_in bytes) (complete o)) us (complete o).pos ≡ record { out = None; fitted = None }
     go [] h = responses_none _ _
-    go (v ∷ []) h = none-second _ v _
+    go (v ∷ []) h = none_second _ v _
     go (v ∷ u ∷ us) h = absurd (omega arith)
 
 both_answers : BothAnswers
@@ -247,7 +247,7 @@ taking bytes o before r after h =
 pub demands : Demands
 demands =
     record {
-      free_options_lem = free_options_lem;
+      free_options = free_options_lem;
       refusals = refusals;
       named_refusal = named_refusal;
       every_play = every_play;

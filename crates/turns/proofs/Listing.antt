@@ -9,7 +9,7 @@ use Rattle.words.specs.Words.{has}
 use Rattle.words.specs.Demands.{LowestFirst}
 use Rattle.words.proofs.Lowest.{lowest_first}
 use Rattle.order.specs.Order.{Order, free}
-use Rattle.order.proofs.Demands.{free_options_lem as free-words}
+use Rattle.order.proofs.Demands.{free_options_lem as free_words}
 use Rattle.book.proofs.UnitClauses.{length_members}
 use Rattle.turns.specs.Turns.{in_turn}
 use Rattle.turns.specs.Meaning.{Free}
@@ -17,8 +17,8 @@ use Rattle.turns.specs.Demands.{FreeOptions}
 
 pub is_free : (n : ℕ) (o : Order) (k : ℕ) → (has (free n o) k ≡ true) ↔ Free n o k
 is_free n o k = (
-  λ h. let f = (free-words n o k).0 h in record { option = f.0; not_wanted = f.1; not_unwanted = f.2; not_standard = f.3 },
-  λ f. (free-words n o k).1 (f.option, f.not_wanted, f.not_unwanted, f.not_standard),
+  λ h. let f = (free_words n o k).0 h in record { option = f.0; not_wanted = f.1; not_unwanted = f.2; not_standard = f.3 },
+  λ f. (free_words n o k).1 (f.option, f.not_wanted, f.not_unwanted, f.not_standard),
 )
 
 in_turn_lem : (n : ℕ) (o : Order) → LowestFirst (Free n o) (in_turn n o)

@@ -211,7 +211,7 @@ pub record Examples : Type 0 where
 
 -- every demand, proved in `proofs/Demands.antt`
 pub record Demands : Type 0 where
-  pub free_options_lem : FreeOptions
+  pub free_options : FreeOptions
   pub refusals : Refusals
   pub named_refusal : NamedRefusal
   pub every_play : EveryPlay

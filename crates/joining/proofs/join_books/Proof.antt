@@ -6,7 +6,7 @@ use native.Mathlib.Omega.{arith}
 use borrow.Author.Rules.{rules}
 use lib.ListN.{length}
 use Rattle.joint.specs.Join.{Fitting}
-use Rattle.joint.specs.Pairs.{paired as pairedIn}
+use Rattle.joint.specs.Pairs.{paired as paired_in}
 use Rattle.joint.specs.Join.{pairs_fault}
 use Rattle.joining.specs.Promises.{judged_as}
 use Rattle.joining.specs.declared.pairs.Paired.TheVariants.{Options}
@@ -39,7 +39,7 @@ module _ (c : tie.After-sizes-joint) where
   abbrev options : ℕ
   options = c.in-Options.paired
 
-  passed : Options options ≡ judged_as (pairs_fault start.args.a.vars start.args.b.vars start.args.pairs.now) (pairedIn start.args.pairs.now)
+  passed : Options options ≡ judged_as (pairs_fault start.args.a.vars start.args.b.vars start.args.pairs.now) (paired_in start.args.pairs.now)
   passed = sym c.in-Options.is ∙ c.judge.ensures
 
 too-large-requires : tie.Need-too_large-requires
