@@ -3,6 +3,7 @@ use mathlib.Core.Path.{refl, sym, ap, ◌∙◌}
 use native.Mathlib.Omega.{arith}
 use Rattle.answer.specs.Packed.{of_kind, unpacked}
 use Rattle.answer.specs.Demands.{Inverse, Injective, Demands}
+use Rattle.answer.proofs.Apart.{numbers_apart}
 use Rattle.answer.proofs.Word.{parts, kind_is, number_is, branchings_is, derived_is, records_is}
 
 pub inverse : Inverse
@@ -17,6 +18,7 @@ demands =
     record {
       inverse = inverse;
       injective = injective;
+      numbers_apart = numbers_apart;
       examples =
           record {
             refused = refl;

@@ -3,10 +3,8 @@
 use mathlib.Core.Path.{◌≡◌, refl}
 use Prim.Native.Nat.{◌/◌, ◌%◌, ◌^◌, ◌<◌}
 use native.Mathlib.Omega.{arith}
-use Rattle.answer.specs.Answer.{tally_in, number_in}
+use Rattle.answer.specs.Answer.{tally_in, number_in, Answer, Answer.Can, Answer.Cannot, Answer.Refused, Answer.Stopped}
 use Rattle.answer.specs.Packed.{kind_in, one_number, one_branching, one_derived, one_record, packed, of_kind, Packable}
-use Rattle.answer.specs.declared.Answer.{Answer}
-use Rattle.answer.specs.declared.Answer.TheVariants.{Can, Cannot, Refused, Stopped}
 
 -- there are four kinds
 pub kind_few : (a : Answer) → kind_in a < 2 ^ 2

@@ -3,8 +3,13 @@ use Rattle.std.specs.Prelude.{ℕ, length}
 use Rattle.steps.specs.State.{Ending, Ending.can, Ending.cannot, Ending.out_of_branchings, Ending.out_of_clauses}
 use Rattle.steps.specs.Run.{Outcome}
 use Rattle.answer.specs.declared.Tally.{Tally}
-use Rattle.answer.specs.declared.Answer.{Answer}
-use Rattle.answer.specs.declared.Answer.TheVariants.{Can, Cannot, Refused, Stopped}
+
+-- a verdict, a refusal by its number, or a stop by its number, with the counts
+pub data Answer : Type 0 where
+  Can : Tally → Answer
+  Cannot : Tally → Answer
+  Refused : ℕ → Answer
+  Stopped : ℕ → Tally → Answer
 
 -- the numbers of the stops: the allowance is used up, and no place is left for a derived rule
 abbrev pub stop_branchings : ℕ

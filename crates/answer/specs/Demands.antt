@@ -1,9 +1,9 @@
--- The demands on the word of an answer, each as a named type that is proved in `proofs/Demands.antt`.
+-- The demands on the word of an answer and on the numbers of refusals, each as a named type that is proved in `proofs/Demands.antt`.
 use Rattle.std.specs.Prelude.{◌≡◌}
-use Rattle.answer.specs.Answer.{stop_branchings}
+use Rattle.answer.specs.Answer.{stop_branchings, Answer, Answer.Refused, Answer.Stopped}
+use Rattle.answer.specs.Numbers.{refusal_number}
 use Rattle.answer.specs.Packed.{packed, unpacked, Packable}
-use Rattle.answer.specs.declared.Answer.{Answer}
-use Rattle.answer.specs.declared.Answer.TheVariants.{Refused, Stopped}
+use Rattle.answer.specs.declared.refusal.Refusal.{Refusal}
 
 -- what is taken out of a word is what was put in
 abbrev pub Inverse : Type 0
@@ -12,6 +12,10 @@ Inverse = (a : Answer) → Packable a → unpacked (packed a) ≡ a
 -- so no two answers have the same word
 abbrev pub Injective : Type 0
 Injective = (a b : Answer) → Packable a → Packable b → packed a ≡ packed b → a ≡ b
+
+-- no two refusals of the code have the same number, so that an answer by its number is one answer
+abbrev pub NumbersApart : Type 0
+NumbersApart = (r s : Refusal) → refusal_number r ≡ refusal_number s → r ≡ s
 
 -- stop 10 with the counts that fill their bits
 abbrev pub largest : Answer
@@ -26,4 +30,5 @@ pub record Examples : Type 0 where
 pub record Demands : Type 0 where
   pub inverse : Inverse
   pub injective : Injective
+  pub numbers_apart : NumbersApart
   pub examples : Examples

@@ -1,9 +1,7 @@
 -- An answer as one word of 64 bits, lowest first: 2 bits for the kind, 6 for the number, 32 for the branchings, 12 for the derived rules, 7 for the records.
 use Rattle.std.specs.Prelude.{ℕ, zero, suc, ◌+◌, ◌*◌, ◌/◌, ◌%◌, ◌^◌, ◌<◌}
-use Rattle.answer.specs.Answer.{tally_in, number_in}
+use Rattle.answer.specs.Answer.{tally_in, number_in, Answer, Answer.Can, Answer.Cannot, Answer.Refused, Answer.Stopped}
 use Rattle.answer.specs.declared.Tally.{Tally}
-use Rattle.answer.specs.declared.Answer.{Answer}
-use Rattle.answer.specs.declared.Answer.TheVariants.{Can, Cannot, Refused, Stopped}
 
 -- 0 can, 1 cannot, 2 refused, 3 stopped
 abbrev pub kind_in : Answer → ℕ

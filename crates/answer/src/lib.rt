@@ -3,61 +3,54 @@
 
 ghost use Rattle.std.specs.Prelude.{◌≡◌};
 ghost use Rattle.answer.specs.Answer.{tally_in, number_in};
+ghost use Rattle.answer.specs.Numbers.{by_number};
 ghost use Rattle.answer.specs.Packed.{kind_in, packed, Packable};
 
+mod refusal;
+
+pub use refusal::{Refusal, Stop};
+
 // The counts: branchings, derived rules, records.
-#[derive(Clone, Copy)]
+#[derive(Clone, Copy, Default)]
 pub struct Tally {
     pub branchings: u32,
     pub derived: usize,
     pub records: usize,
 }
 
-// A verdict, a refusal by its number, or a stop by its number.
+// A verdict, a refusal, or a stop.
 #[derive(Clone, Copy)]
 pub enum Answer {
     Can(Tally),
     Cannot(Tally),
-    Refused(u32),
-    Stopped(u32, Tally),
+    Refused(Refusal),
+    Stopped(Stop, Tally),
 }
-
-// The numbers of the stops: the allowance is spent, and no place is left for a derived rule.
-pub const STOP_BRANCHINGS: u32 = 10;
-
-pub const STOP_PLACES: u32 = 11;
 
 // The counts of an answer; zeros for a refusal.
 pub fn tally_of(a: Answer) -> Tally
-    ensures { result ≡ tally_in a }
+    ensures { result ≡ tally_in (by_number a) }
 {
     match a {
-        Answer::Can(tally) => tally,
-        Answer::Cannot(tally) => tally,
-        Answer::Refused(_) => Tally {
-            branchings: 0,
-            derived: 0,
-            records: 0,
-        },
-        Answer::Stopped(_, tally) => tally,
+        Answer::Can(tally) | Answer::Cannot(tally) | Answer::Stopped(_, tally) => tally,
+        Answer::Refused(_) => Tally::default(),
     }
 }
 
 // The number of a refusal or a stop; 0 for a verdict.
 pub fn number_of(a: Answer) -> u32
-    ensures { result ≡ number_in a }
+    ensures { result ≡ number_in (by_number a) }
 {
     match a {
-        Answer::Can(_) => 0,
-        Answer::Cannot(_) => 0,
-        Answer::Refused(number) => number,
-        Answer::Stopped(number, _) => number,
+        Answer::Can(_) | Answer::Cannot(_) => 0,
+        Answer::Refused(refusal) => u32::from(refusal),
+        Answer::Stopped(stop, _) => u32::from(stop),
     }
 }
 
 // 0 can, 1 cannot, 2 refused, 3 stopped.
 fn kind_of(a: Answer) -> u64
-    ensures { result ≡ kind_in a }
+    ensures { result ≡ kind_in (by_number a) }
 {
     match a {
         Answer::Can(_) => 0,
@@ -78,8 +71,8 @@ const ONE_RECORD: u64 = ONE_DERIVED << 12;
 
 // The answer as one word. Every answer to a check is packable; the crate that hands words out shows it.
 pub fn word_of(a: Answer) -> u64
-    requires { Packable a }
-    ensures { result ≡ packed a }
+    requires { Packable (by_number a) }
+    ensures { result ≡ packed (by_number a) }
 {
     let tally = tally_of(a);
     kind_of(a)

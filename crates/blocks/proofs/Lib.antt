@@ -2,5 +2,4 @@
 pub mod Taking
 pub mod Doubling
 pub mod Summing
-pub mod Filling
 pub mod Marking

@@ -2,17 +2,21 @@
 use mathlib.Core.Path.{◌≡◌, sym, ap, ◌∙◌}
 use mathlib.Core.Bool.{Bool, true, false}
 use mathlib.Core.List.{List, ◌∷◌, ◌++◌, map}
-use Prim.Native.Nat.{ℕ, ◌+◌, ◌*◌, ◌≤◌, ◌<◌}
+use Prim.Native.Nat.{ℕ, ◌+◌, ◌-◌, ◌*◌, ◌≤◌, ◌<◌}
 use native.Mathlib.Omega.{arith}
 use borrow.Author.Tests.{lt-ltb, le-ltb}
 use lib.ListN.{length, length-append, length-map}
 use Rattle.steps.specs.Clause.{Clause, literals}
+use Rattle.rows.specs.Rows.{from, clause_at}
 use Rattle.book.specs.Bytes.{bytes_of, flat, book_bytes, encode}
 use Rattle.book.specs.Reading.{Reading.book}
-use Rattle.book.specs.Written.{placed, written_of, written_to}
-use Rattle.book.specs.declared.Written.TheVariants.{Bytes, Short}
+use Rattle.book.specs.Written.{placed, written_of, written_to, Written.Bytes, Written.Short}
 use Rattle.book.proofs.Placed.{placed_append}
 use Rattle.book.proofs.Bytes.{length_bytes_of, length_flat}
+
+-- the bytes of the words of one sign, of the clauses from the i-th on
+abbrev pub words_from : List ℕ → Bool → ℕ → ℕ → List ℕ
+words_from t sign m i = flat (map (literals sign) (from (clause_at t) i (m - i)))
 
 -- the bytes of one array
 pub length_column : (b : Bool) (cs : List Clause) → length (flat (map (literals b) cs)) ≡ 8 * length cs

@@ -3,6 +3,7 @@ pub mod Refusals
 pub mod Tests
 pub mod Conditions
 pub mod Bytes
+pub mod Eight
 pub mod Readings
 pub mod UnitClauses
 pub mod Orders

@@ -16,7 +16,7 @@ use Rattle.book.specs.Bytes.{book_bytes, vars_in, count_in, rules_in}
 use Rattle.book.specs.Refusals.{Row, row, first_row, size_rows, rule_rows, book_rows}
 use Rattle.book.specs.Reading.{Reading.book, Reading.refused, judged, read, read_rules, read_table}
 use Rattle.book.proofs.Refusals.{first_here, first_later}
-use Rattle.book.proofs.Tests.{sizes_vars, sizes_clauses, sizes_length, sizes_passed}
+use Rattle.book.proofs.Tests.{sizes_length, sizes_passed}
 
 -- a book is where no row holds
 pub judged_book : (x : Option ℕ) (n n' : ℕ) (cs cs' : List Clause) → judged x n cs ≡ book n' cs' → (x ≡ none) × (n ≡ n') × (cs ≡ cs')
@@ -66,19 +66,11 @@ module _ (bytes : List ℕ) where
     rows_long = first_later (row 1 (ltb (length bytes) 3)) sizes (le-ltb _ _ long)
 
     -- a row from 2 on
-    read_by : (k : ℕ) → first_row sizes ≡ some k → refused k ≡ read bytes
+    pub read_by : (k : ℕ) → first_row sizes ≡ some k → refused k ≡ read bytes
     unfolding read
     read_by k e = refused_by (first_row (book_rows bytes)) (vars_in bytes) k (rules_in bytes) (rows_long ∙ e)
 
-    -- 2
-    pub read_vars : max_vars < vars_in bytes → refused 2 ≡ read bytes
-    read_vars h = read_by 2 (sizes_vars (vars_in bytes) (count_in bytes) whole rules h)
-
     module _ (few : vars_in bytes ≤ max_vars) where
-      -- 3
-      pub read_clauses : max_clauses < count_in bytes → refused 3 ≡ read bytes
-      read_clauses h = read_by 3 (sizes_clauses (vars_in bytes) (count_in bytes) whole rules few h)
-
       -- 4
       pub read_length : count_in bytes ≤ max_clauses → length bytes ≢ book_bytes (count_in bytes) → refused 4 ≡ read bytes
       read_length h other = read_by 4 (sizes_length (vars_in bytes) (count_in bytes) whole rules few h (ne_eqb _ _ other))
@@ -102,19 +94,12 @@ module _ (n m : ℕ) (t : List ℕ) where
   abbrev pub table_rows : List Row
   table_rows = size_rows n m exact ++ rule_rows n (clauses t m)
 
-  table_by : (k : ℕ) → first_row table_rows ≡ some k → refused k ≡ read_table n m t
+  -- a row from 2 on
+  pub table_by : (k : ℕ) → first_row table_rows ≡ some k → refused k ≡ read_table n m t
   unfolding read_table
   table_by k e = refused_by (first_row table_rows) n k (clauses t m) e
 
-  -- 2
-  pub table_vars : max_vars < n → refused 2 ≡ read_table n m t
-  table_vars h = table_by 2 (sizes_vars n m exact (rule_rows n (clauses t m)) h)
-
   module _ (few : n ≤ max_vars) where
-    -- 3
-    pub table_clauses : max_clauses < m → refused 3 ≡ read_table n m t
-    table_clauses h = table_by 3 (sizes_clauses n m exact (rule_rows n (clauses t m)) few h)
-
     -- 4
     pub table_length : m ≤ max_clauses → length t ≢ clause_words m → refused 4 ≡ read_table n m t
     table_length h other = table_by 4 (sizes_length n m exact (rule_rows n (clauses t m)) few h (ne_eqb _ _ other))

@@ -8,7 +8,7 @@ ghost use Rattle.rows.specs.Rows.{clause_words, clauses as Clauses};
 ghost use Rattle.book.specs.Limits.{max_clauses};
 ghost use Rattle.book.specs.Reading.{read as Read, admit as Admit, read_table};
 ghost use Rattle.book.specs.Values.{reading_of};
-ghost use Rattle.book.specs.Written.{written_of, written_to};
+ghost use Rattle.book.specs.Written.{written_of, written_by, written_to};
 
 mod encode;
 mod judge;
@@ -16,7 +16,8 @@ mod read;
 mod units;
 mod word;
 
-pub use encode::write_book;
+use answer::Refusal;
+pub use encode::{WriteError, write_book};
 pub use judge::names_above;
 use order::{Assumptions, Order};
 pub use word::word_at;
@@ -26,21 +27,6 @@ pub use word::word_at;
 pub struct Book {
     pub vars: u32,
     pub clauses: usize,
-}
-
-// What reading gives: the sizes of the book, or the number of the refusal.
-#[derive(Clone, Copy)]
-pub enum Reading {
-    Book(Book),
-    Refused(u32),
-}
-
-// What writing gives: how many bytes, the number of the refusal of what is no book, or that the bytes do not fit.
-#[derive(Clone, Copy)]
-pub enum Written {
-    Bytes(usize),
-    Refused(u32),
-    Short,
 }
 
 impl Book {
@@ -55,53 +41,41 @@ impl Book {
 
     // What the bytes are. They are read once, into the work table, and the clauses are judged there: the table's first clauses are the book's.
     // On a refusal nothing is said of the table.
-    pub fn from_bytes(bytes: &[u8], t: &mut [u64]) -> Reading
+    pub fn from_bytes(bytes: &[u8], t: &mut [u64]) -> Result<Book, Refusal>
         requires { clause_words max_clauses ≤ length t.old }
         ensures { reading_of result t.new ≡ Read bytes.now }
     {
         if bytes.len() < 3 {
-            return Reading::Refused(1);
+            return Err(Refusal::TooShort);
         }
-        let vars = bytes[0] as u32;
-        let clauses = bytes[1] as usize + 256 * (bytes[2] as usize);
-        if Self::MAX_VARS < vars {
-            return Reading::Refused(2);
-        }
-        if Self::MAX_CLAUSES < clauses {
-            return Reading::Refused(3);
-        }
+        let vars = u32::from(bytes[0]);
+        let clauses = usize::from(u16::from_le_bytes([bytes[1], bytes[2]]));
+        let b = judge::judge_sizes(vars, clauses)?;
         if bytes.len() != 3 + 16 * clauses {
-            return Reading::Refused(4);
+            return Err(Refusal::WrongLength);
         }
         read::copy_clauses(bytes, clauses, t);
-        judge::judge_rules(Book { vars, clauses }, t)
+        judge::judge_rules(b, t)
     }
 
     // What bytes and an order to them are. Refusals of the bytes come before those of the order.
-    pub fn admit(bytes: &[u8], o: Order, t: &mut [u64]) -> Reading
+    pub fn admit(bytes: &[u8], o: Order, t: &mut [u64]) -> Result<Book, Refusal>
         requires { clause_words max_clauses ≤ length t.old }
         ensures { reading_of result t.new ≡ Admit bytes.now (order_of o) }
     {
-        match Self::from_bytes(bytes, t) {
-            Reading::Refused(number) => Reading::Refused(number),
-            Reading::Book(b) => judge::judge_order(b, o),
-        }
+        let b = Self::from_bytes(bytes, t)?;
+        judge::judge_order(b, o)
     }
 
     // What sizes and a table are: the table has the words of so many clauses and nothing else.
-    pub fn from_words(vars: u32, clauses: usize, t: &[u64]) -> Reading
+    pub fn from_words(vars: u32, clauses: usize, t: &[u64]) -> Result<Book, Refusal>
         ensures { reading_of result t.now ≡ read_table vars clauses t.now }
     {
-        if Self::MAX_VARS < vars {
-            return Reading::Refused(2);
-        }
-        if Self::MAX_CLAUSES < clauses {
-            return Reading::Refused(3);
-        }
+        let b = judge::judge_sizes(vars, clauses)?;
         if t.len() != rows::table::WORDS * clauses {
-            return Reading::Refused(4);
+            return Err(Refusal::WrongLength);
         }
-        judge::judge_rules(Book { vars, clauses }, t)
+        judge::judge_rules(b, t)
     }
 
     // Puts the clauses of a completed order into the table after the book's, and gives the number of clauses that it then has.
@@ -116,13 +90,11 @@ impl Book {
 
     // Writes the book's bytes to the beginning of a lent buffer. A table that is no book of these sizes, and a buffer that is
     // too short, leave the buffer as it was.
-    pub fn to_bytes(self, t: &[u64], out: &mut [u8]) -> Written
-        ensures value { result ≡ written_of (length out.old) (read_table self.vars self.clauses t.now) }
+    pub fn to_bytes(self, t: &[u64], out: &mut [u8]) -> Result<usize, WriteError>
+        ensures value { written_by result ≡ written_of (length out.old) (read_table self.vars self.clauses t.now) }
         ensures out_after { out.new ≡ written_to out.old (read_table self.vars self.clauses t.now) }
     {
-        match Self::from_words(self.vars, self.clauses, t) {
-            Reading::Refused(number) => Written::Refused(number),
-            Reading::Book(b) => encode::write_book(b, t, out),
-        }
+        let b = Self::from_words(self.vars, self.clauses, t)?;
+        encode::write_book(b, t, out)
     }
 }

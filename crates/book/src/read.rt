@@ -12,13 +12,11 @@ pub fn copy_clauses(bytes: &[u8], clauses: usize, t: &mut [u64])
     requires { (length bytes.now ≡ book_bytes clauses) × (clause_words clauses ≤ length t.old) }
     ensures { Clauses t.new clauses ≡ clauses_in clauses bytes.now }
 {
-    let mut i: usize = 0;
-    while i < clauses {
+    for i in 0..clauses {
         let c = Clause {
             pos: word_at(bytes, 3 + 8 * i),
             neg: word_at(bytes, 3 + 8 * (clauses + i)),
         };
         table::put(t, i, c);
-        i += 1;
     }
 }

@@ -23,12 +23,9 @@ pub fn add_units(positive: bool, word: u64, clauses: usize, t: &mut [u64]) -> us
     requires { clause_words (clauses + length (units_of positive word)) ≤ length t.old }
     ensures { Clauses t.new result ≡ Clauses t.old clauses ++ units_of positive word }
 {
-    let mut rest = word;
     let mut count = clauses;
-    while rest != 0 {
-        let lowest = words::lowest_of(rest);
-        table::put(t, count, unit_of(positive, lowest));
-        rest = words::minus(rest, lowest);
+    for k in words::members(word) {
+        table::put(t, count, unit_of(positive, words::word_of(k)));
         count += 1;
     }
     count

@@ -8,14 +8,9 @@ pub fn word_at(bytes: &[u8], at: usize) -> u64
     requires { at + 8 ≤ length bytes.now }
     ensures { result ≡ word_at bytes.now at }
 {
-    let mut word: u64 = 0;
-    let mut left: usize = 8;
-    while 0 < left {
-        left -= 1;
-        let byte = bytes[at + left] as u64;
-        word = word * 256 + byte;
-    }
-    word
+    let mut eight = [0; 8];
+    eight.copy_from_slice(&bytes[at..at + 8]);
+    u64::from_le_bytes(eight)
 }
 
 // Writes the bytes of a word from `at` on.
@@ -23,11 +18,5 @@ pub fn put_word(word: u64, at: usize, out: &mut [u8])
     requires { at + 8 ≤ length out.old }
     ensures { out.new ≡ placed out.old at (bytes_of 8 word) }
 {
-    let mut rest = word;
-    let mut i: usize = 0;
-    while i < 8 {
-        out[at + i] = (rest % 256) as u8;
-        rest /= 256;
-        i += 1;
-    }
+    out[at..at + 8].copy_from_slice(&word.to_le_bytes());
 }

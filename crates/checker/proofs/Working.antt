@@ -14,9 +14,9 @@ use Rattle.steps.specs.Shape.{AllProper}
 use Rattle.steps.proofs.ShapeStart.{given_proper}
 use Rattle.steps.proofs.Allowances.{stops_spent}
 use Rattle.steps.proofs.Soundness.{demand2}
-use Rattle.answer.specs.Answer.{tally_of, tally_in}
+use Rattle.answer.specs.Answer.{tally_of, tally_in, Answer}
+use Rattle.answer.specs.Numbers.{by_number}
 use Rattle.answer.specs.declared.Tally.{Tally}
-use Rattle.answer.specs.declared.Answer.{Answer}
 use Rattle.answer.proofs.Ending.{tally_told}
 use Rattle.order.specs.Order.{Order, complete}
 use Rattle.book.specs.Limits.{max_vars, max_clauses, max_derived}
@@ -78,10 +78,10 @@ module _ (b : Book) (o : Assumptions) (t : List ℕ) (w : Workable b o t) (allow
   outcome = run b.vars (clauses t b.clauses) o allowance (length before.pos)
 
   -- the counts are those of the outcome
-  counted : tally_in d.answer ≡ tally_of outcome
+  counted : tally_in (by_number d.answer) ≡ tally_of outcome
   counted = ap tally_in done.handed.answer ∙ tally_told outcome.ending (tally_of outcome)
 
-  pub fitting : length t' ≡ length t → sequent_words max_vars ≤ length rs → (c : Tally) → c ≡ tally_in d.answer → Fitting t' rs d.given c before
+  pub fitting : length t' ≡ length t → sequent_words max_vars ≤ length rs → (c : Tally) → c ≡ tally_in (by_number d.answer) → Fitting t' rs d.given c before
   fitting same list c is =
       let spent = stops_spent b.vars (clauses t b.clauses) o w.input allowance (length before.pos) in
       let right = demand2 b.vars (clauses t b.clauses) o w.input allowance (length before.pos) in
@@ -110,9 +110,9 @@ module _ (b : Book) (o : Assumptions) (t : List ℕ) (w : Workable b o t) (allow
       }
 
   -- and fills them
-  pub handed_out : (c : Tally) → c ≡ tally_in d.answer → (after : Tables) → tables_fault (lengths before) ≡ false →
+  pub handed_out : (c : Tally) → c ≡ tally_in (by_number d.answer) → (after : Tables) → tables_fault (lengths before) ≡ false →
       after ≡ filled_with (clauses_from t' d.given c.derived) (sequents rs c.records) before →
-      Promised b.vars (clauses t b.clauses) o allowance before d.answer after
+      Promised b.vars (clauses t b.clauses) o allowance before (by_number d.answer) after
   unfolding answer_of filled
   handed_out c is after passes copied =
       let ran_it : ran outcome ≡ result_of b.vars (clauses t b.clauses) o allowance (lengths before) = sym (when_false (tables_fault (lengths before)) _ _ passes) in

@@ -2,10 +2,10 @@
 -- next place is one word more, so a copying loop has written the words that it passed.
 use mathlib.Core.Path.{◌≡◌, refl, sym, ap, ◌∙◌}
 use mathlib.Core.List.{List, [], ◌∷◌, ◌++◌, map, append_assoc, map-append}
-use Prim.Native.Nat.{ℕ, suc, ◌+◌, ◌≤◌, ◌<◌}
+use Prim.Native.Nat.{ℕ, suc, ◌+◌, ◌<◌}
 use native.Mathlib.Numerals.{add-one}
 use native.Mathlib.Omega.{arith}
-use lib.ListN.{length, drop, set, length-append, length-drop, length-map}
+use lib.ListN.{length, drop, set, length-append, length-map}
 use lib.Seq.{drop-cons, set_at}
 use Rattle.rows.specs.Rows.{from}
 use Rattle.rows.proofs.Lists.{from_snoc, from_length}
@@ -18,10 +18,6 @@ written_more ws t x h =
     ∙ set_at ws _ (drop (suc (length ws)) t) x (length ws) refl
     ∙ sym (append_assoc ws (x ∷ []) (drop (suc (length ws)) t))
     ∙ ap (λ (n : ℕ). (ws ++ (x ∷ [])) ++ drop n t) (sym (length-append ws (x ∷ []) ∙ add-one (length ws)))
-
--- the length stays
-pub written_length : (ws t : List ℕ) → length ws ≤ length t → length (written ws t) ≡ length t
-written_length ws t h = length-append ws (drop (length ws) t) ∙ omega (arith, length-drop (length ws) t)
 
 -- the words of i elements, from the one at m on
 module _ {A : Type 0} (f : A → ℕ) (g : ℕ → A) (m : ℕ) (t : List ℕ) where
@@ -37,7 +33,3 @@ module _ {A : Type 0} (f : A → ℕ) (g : ℕ → A) (m : ℕ) (t : List ℕ) w
       ∙ written_more (map f (from g m i)) t x (omega (arith, words_length i))
       ∙ ap (λ (y : ℕ). written (map f (from g m i) ++ (y ∷ [])) t) v
       ∙ ap (λ (l : List ℕ). written l t) (sym (ap (λ (n : ℕ). map f (from g m n)) (add-one i) ∙ ap (map f) (from_snoc g m i) ∙ map-append f (from g m i) (g (m + i) ∷ [])))
-
-  -- the copied table is as long as before
-  pub copied_length : (i : ℕ) (out : List ℕ) → i ≤ length t → out ≡ written (map f (from g m i)) t → length out ≡ length t
-  copied_length i out h e = ap length e ∙ written_length (map f (from g m i)) t (omega (arith, words_length i))

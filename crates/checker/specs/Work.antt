@@ -1,9 +1,10 @@
 -- The work tables of a check: what its parts ask of them, and what they leave there.
 use Rattle.std.specs.Prelude.{◌≡◌, true, false, List, ℕ, ◌+◌, ◌≤◌, length}
-use Rattle.steps.specs.Clause.{Clause, DSequent}
+use Rattle.steps.specs.Clause.{Clause}
 use Rattle.steps.specs.Run.{Assumptions, units, given, run}
 use Rattle.steps.specs.Shape.{Input}
-use Rattle.answer.specs.declared.Answer.{Answer}
+use Rattle.answer.specs.Answer.{Answer}
+use Rattle.answer.specs.Numbers.{by_number}
 use Rattle.answer.specs.declared.Tally.{Tally}
 use Rattle.book.specs.Limits.{max_vars, max_clauses, max_derived}
 use Rattle.book.specs.Reading.{WellFormed}
@@ -14,14 +15,6 @@ use Rattle.search.specs.Values.{Handed}
 use Rattle.contract.specs.Check.{Lengths, tables_fault, Result, Result.refused, Result.ran}
 use Rattle.contract.specs.Filled.{Tables, lengths, answer_of, filled}
 use Rattle.checker.specs.declared.decide.Done.{Done}
-use Rattle.checker.specs.declared.tables.Column.{Column}
-use Rattle.checker.specs.declared.tables.Column.TheVariants.{Decided, Trues, Redundant}
-
--- one word of a D-sequent
-abbrev pub column_of : Column → DSequent → ℕ
-column_of Decided d = d.decisions.decided
-column_of Trues d = d.decisions.trues
-column_of Redundant d = d.redundant
 
 -- the result for a book that was admitted: 9, or the run
 abbrev pub result_of : ℕ → List Clause → Assumptions → ℕ → Lengths → Result
@@ -48,7 +41,7 @@ pub record Runnable (b : Book) (o : Assumptions) (places : ℕ) (t q rs : List �
 
 -- the work tables hold the outcome of the run, the derived clauses after book and order
 pub record HasRun (n : ℕ) (cs : List Clause) (o : Assumptions) (allowance places : ℕ) (d : Done) (t rs : List ℕ) : Type 0 where
-  pub handed : Handed t rs d.given d.answer (run n cs o allowance places)
+  pub handed : Handed t rs d.given (by_number d.answer) (run n cs o allowance places)
   pub given_is : d.given ≡ length (given cs o)
 
 -- the counted places are there, in the work tables and in the lent ones

@@ -32,7 +32,7 @@ pub fn decide(
     let m = b.assume(o, t);
     let e = Env {
         vars: b.vars,
-        allowance: allowance,
+        allowance,
         capacity: m + places,
     };
     let found = run::run(t, q, rs, e, m);

@@ -2,50 +2,33 @@
 #![tactic(auto)]
 
 ghost use Rattle.rows.specs.Rows.{clauses};
+ghost use Rattle.answer.specs.Numbers.{by_number};
 ghost use Rattle.order.specs.Values.{order_of, assumptions_of};
-ghost use Rattle.contract.specs.Filled.{lent, Checked};
+ghost use Rattle.contract.specs.Filled.{Checked};
+ghost use Rattle.checker.specs.Lent.{tables_of, SameReferences};
 ghost use Rattle.checker.specs.Work.{Workable, Promised};
 
-use answer::Answer;
-use book::{Book, Reading};
+use answer::{Answer, Refusal};
+use book::Book;
 use order::{Assumptions, Order};
 use rows::{index, records, table};
 
 mod decide;
 mod tables;
 
-pub use tables::fault as tables_fault;
+pub use tables::{Lengths, Tables};
 
 // Checks the book and the order. The derived rules go into the first places of `pos` and `neg`, whose length is the places; the records into
 // those of `decided`, `trues` and `redundant`.
-pub fn check(
-    book: &[u8],
-    o: Order,
-    allowance: u32,
-    pos: &mut [u64],
-    neg: &mut [u64],
-    decided: &mut [u64],
-    trues: &mut [u64],
-    redundant: &mut [u64],
-) -> Answer
-    ensures { Checked book.now (order_of o) allowance (lent pos.old neg.old decided.old trues.old redundant.old) result (lent pos.new neg.new decided.new trues.new redundant.new) }
+pub fn check(book: &[u8], o: Order, allowance: u32, tables: &mut Tables<'_>) -> Answer
+    ensures same_references { SameReferences tables.old tables.new }
+    ensures checked { Checked book.now (order_of o) allowance (tables_of tables.old) (by_number result) (tables_of tables.new) }
 {
     let mut t = [0u64; table::WORDS
         * (Book::MAX_CLAUSES + (Book::MAX_VARS as usize) + Book::MAX_DERIVED)];
-    let read = Book::admit(book, o, &mut t);
-    match read {
-        Reading::Refused(k) => Answer::Refused(k),
-        Reading::Book(b) => run_book(
-            b,
-            o.complete(),
-            allowance,
-            &mut t,
-            pos,
-            neg,
-            decided,
-            trues,
-            redundant,
-        ),
+    match Book::admit(book, o, &mut t) {
+        Err(refusal) => Answer::Refused(refusal),
+        Ok(b) => run_book(b, o.complete(), allowance, &mut t, tables),
     }
 }
 
@@ -55,33 +38,23 @@ fn run_book(
     o: Assumptions,
     allowance: u32,
     t: &mut [u64],
-    pos: &mut [u64],
-    neg: &mut [u64],
-    decided: &mut [u64],
-    trues: &mut [u64],
-    redundant: &mut [u64],
+    tables: &mut Tables<'_>,
 ) -> Answer
     requires { Workable b (assumptions_of o) t.old }
-    ensures { Promised b.vars (clauses t.old b.clauses) (assumptions_of o) allowance (lent pos.old neg.old decided.old trues.old redundant.old) result (lent pos.new neg.new decided.new trues.new redundant.new) }
+    ensures same_references { SameReferences tables.old tables.new }
+    ensures promised { Promised b.vars (clauses t.old b.clauses) (assumptions_of o) allowance (tables_of tables.old) (by_number result) (tables_of tables.new) }
 {
-    if tables::fault(
-        pos.len(),
-        neg.len(),
-        decided.len(),
-        trues.len(),
-        redundant.len(),
-    ) {
-        return Answer::Refused(9);
+    let lengths = tables.lengths();
+    if lengths.fault() {
+        return Answer::Refused(Refusal::UnfitTables);
     }
     let mut q = [0u64; index::WORDS
         * ((Book::MAX_CLAUSES + (Book::MAX_VARS as usize) + Book::MAX_DERIVED + index::BLOCK - 1)
             / index::BLOCK)];
     let mut rs = [0u64; records::WORDS * (Book::MAX_VARS as usize)];
-    let done = decide::decide(b, o, allowance, pos.len(), t, &mut q, &mut rs);
+    let done = decide::decide(b, o, allowance, lengths.pos, t, &mut q, &mut rs);
     let found = done.answer;
     let tally = answer::tally_of(found);
-    tables::hand_out(
-        t, &rs, done.given, tally, pos, neg, decided, trues, redundant,
-    );
+    tables.fill(t, &rs, done.given, tally);
     found
 }

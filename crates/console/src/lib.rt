@@ -1,7 +1,7 @@
 // Reading into a buffer for the programs, over the standard library's readers.
 #![tactic(auto)]
 
-ghost use Rattle.std.specs.Prelude.{◌≤◌, length, IfOk};
+ghost use Rattle.std.specs.Prelude.{◌≡◌, ◌≤◌, length, IfOk};
 
 use std::io;
 use std::io::Read;
@@ -19,4 +19,18 @@ pub fn read_full<R: Read>(reader: &mut R, buf: &mut [u8]) -> io::Result<usize>
         done += n;
     }
     Ok(done)
+}
+
+// Lends `fill` a buffer, and prints what it put at the start: as many bytes as it says. Public for the programs. It ensures nothing, since a printer of the standard
+// library promises nothing of what it printed.
+pub fn print_filled<F: FnOnce(&mut [u8]) -> usize>(
+    rt: &impl Print,
+    buf: &mut [u8],
+    fill: F,
+) -> io::Result<()>
+    requires callable { (out : _) → out.now ≡ buf.old → F.pre fill out }
+    requires within { (out : _) (n : _) (after : _) → out.now ≡ buf.old → F.post fill out n after → n ≤ length buf.old }
+{
+    let n = fill(buf);
+    rt.write_all(&buf[..n])
 }

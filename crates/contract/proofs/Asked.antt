@@ -10,10 +10,8 @@ use Rattle.steps.specs.Run.{Outcome}
 use Rattle.order.specs.Order.{Order}
 use Rattle.book.specs.Conditions.{First, book_conditions, admit_conditions}
 use Rattle.book.proofs.Refusals.{first_front}
-use Rattle.answer.specs.Answer.{tally_of, end_of, tally_in}
+use Rattle.answer.specs.Answer.{tally_of, end_of, tally_in, Answer, Answer.Refused}
 use Rattle.answer.specs.declared.Tally.{Tally}
-use Rattle.answer.specs.declared.Answer.{Answer}
-use Rattle.answer.specs.declared.Answer.TheVariants.{Refused}
 use Rattle.answer.proofs.Ending.{tally_told}
 use Rattle.contract.specs.Check.{Lengths, Result, Result.refused, Result.ran, outcome, check}
 use Rattle.contract.specs.Filled.{Tables, lengths, answer_of, filled, Checked}

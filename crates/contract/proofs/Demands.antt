@@ -26,11 +26,9 @@ use Rattle.book.proofs.Refusals.{none_iff}
 use Rattle.book.proofs.Conditions.{rules_decide, order_decides}
 use Rattle.book.proofs.Accepted.{rules_proper, FromBytes}
 use Rattle.book.proofs.RoundTrip.{written_holds, written_admitted}
-use Rattle.answer.specs.Answer.{tally_of, end_of}
+use Rattle.answer.specs.Answer.{tally_of, end_of, Answer, Answer.Can, Answer.Cannot}
 use Rattle.answer.specs.Packed.{Packable}
 use Rattle.answer.specs.declared.Tally.{Tally}
-use Rattle.answer.specs.declared.Answer.{Answer}
-use Rattle.answer.specs.declared.Answer.TheVariants.{Can, Cannot}
 use Rattle.answer.proofs.Ending.{tally_told, number_few}
 use Rattle.contract.specs.Check.{Lengths, Result, Result.refused, Result.ran, outcome, check}
 use Rattle.contract.specs.Filled.{Tables, lengths, answer_of, Checked}

@@ -7,8 +7,7 @@ use Rattle.order.specs.Order.{Order, complete}
 use Rattle.book.specs.Bytes.{vars_in, rules_in}
 use Rattle.book.specs.Conditions.{First, NoRow, book_conditions}
 use Rattle.answer.specs.declared.Tally.{Tally}
-use Rattle.answer.specs.declared.Answer.{Answer}
-use Rattle.answer.specs.declared.Answer.TheVariants.{Can, Cannot, Refused}
+use Rattle.answer.specs.Answer.{Answer, Answer.Can, Answer.Cannot, Answer.Refused}
 use Rattle.contract.specs.Check.{Lengths, outcome, check}
 use Rattle.contract.specs.Filled.{Tables, filled}
 use Rattle.contract.specs.Demands.{answer, Permitted, check_conditions, Named, Fills, Tells, Uncovered, Settled, StopsOnBranchings, StopsOnPlaces, IsVerdict}

@@ -14,11 +14,9 @@ use Rattle.order.specs.Order.{Order, complete}
 use Rattle.order.specs.Demands.{order}
 use Rattle.book.specs.Bytes.{vars_in, rules_in, encode}
 use Rattle.book.specs.Conditions.{Condition, condition, First, NoRow, NamesAbove, InBoth, rule_conditions, book_conditions, order_conditions, admit_conditions}
-use Rattle.answer.specs.Answer.{tally_of}
+use Rattle.answer.specs.Answer.{tally_of, Answer, Answer.Can, Answer.Cannot, Answer.Refused, Answer.Stopped}
 use Rattle.answer.specs.Packed.{Packable}
 use Rattle.answer.specs.declared.Tally.{Tally}
-use Rattle.answer.specs.declared.Answer.{Answer}
-use Rattle.answer.specs.declared.Answer.TheVariants.{Can, Cannot, Refused, Stopped}
 use Rattle.contract.specs.Check.{Lengths, Result.refused, Result.ran, outcome, check}
 use Rattle.contract.specs.Filled.{answer_of, Tables, lengths, filled}
 

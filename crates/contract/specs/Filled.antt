@@ -2,9 +2,7 @@
 use Rattle.std.specs.Prelude.{◌≡◌, List, ◌++◌, map, ℕ, length, drop}
 use Rattle.steps.specs.Clause.{Clause, DSequent}
 use Rattle.order.specs.Order.{Order}
-use Rattle.answer.specs.Answer.{of_outcome}
-use Rattle.answer.specs.declared.Answer.{Answer}
-use Rattle.answer.specs.declared.Answer.TheVariants.{Refused}
+use Rattle.answer.specs.Answer.{of_outcome, Answer, Answer.Refused}
 use Rattle.contract.specs.Check.{Lengths, Result, Result.refused, Result.ran, check}
 
 -- the answer that tells a result

@@ -1,38 +1,32 @@
-// A desk with drafts to come back to: a fresh one, and four calls that are lent a desk. Each takes what the desk holds, calls a function on values, and stores what that gave.
+// A desk with drafts to come back to: a fresh one, and four calls on one that is lent. Each gives what the desk holds to a function on values, and stores what that gave.
+// The calls are thin and lent a desk, as the scope names the form.
 #![tactic(auto)]
 
 ghost use Rattle.std.specs.Prelude.{◌≡◌};
-ghost use Rattle.drafts.specs.Desk as definition;
-ghost use Rattle.drafts.specs.Desk.{Alters, Call.set, Call.clear, Call.keep, Call.return};
+ghost use Rattle.drafts.specs.Desk.{empty_desk, Makes, Alters, Call.set, Call.clear, Call.keep, Call.return};
+ghost use Rattle.drafts.specs.Values.{answered};
 
+use answer::Refusal;
 use book::Book;
-use drafts::{Desk, Done};
+use drafts::Desk;
 
 mod calls;
 
-// The refusal: more options than a book may have.
-const TOO_MANY: u32 = 2;
-
 // A fresh desk for so many options: an empty order, and no draft kept. It is refused for more than 64, and the desk is the fresh one for none.
+// A pair, since on a refusal too there is a desk.
 #[tactic(auto, using(crate::proofs::Laws::too_many, crate::proofs::Laws::not_too_many))]
-pub fn fresh(options: u32) -> Done
-    ensures { result ≡ definition.fresh options }
+pub fn fresh(options: u32) -> (Desk, Result<(), Refusal>)
+    ensures { Makes options (answered result.1) result.0 }
 {
     if Book::MAX_VARS < options {
-        return Done {
-            desk: empty(0),
-            answer: TOO_MANY,
-        };
+        return (empty(0), Err(Refusal::TooManyOptions));
     }
-    Done {
-        desk: empty(options),
-        answer: 0,
-    }
+    (empty(options), Ok(()))
 }
 
 // A desk with an empty order and no draft.
 fn empty(options: u32) -> Desk
-    ensures { result ≡ definition.empty_desk options }
+    ensures { result ≡ empty_desk options }
 {
     Desk {
         options,
@@ -45,37 +39,33 @@ fn empty(options: u32) -> Desk
 }
 
 // Sets a wish for an option: it is to be fitted, or to be left out.
-pub fn set(desk: &mut Desk, option: u32, fitted: bool) -> u32
-    ensures { Alters desk.old (set option fitted) result desk.new }
+pub fn set(desk: &mut Desk, option: u32, fitted: bool) -> Result<(), Refusal>
+    ensures { Alters desk.old (set option fitted) (answered result) desk.new }
 {
-    let done = calls::with_wish(*desk, option, fitted);
-    *desk = done.desk;
-    done.answer
+    *desk = calls::with_wish(*desk, option, fitted)?;
+    Ok(())
 }
 
 // Clears the wish for an option.
-pub fn clear(desk: &mut Desk, option: u32) -> u32
-    ensures { Alters desk.old (clear option) result desk.new }
+pub fn clear(desk: &mut Desk, option: u32) -> Result<(), Refusal>
+    ensures { Alters desk.old (clear option) (answered result) desk.new }
 {
-    let done = calls::without_wish(*desk, option);
-    *desk = done.desk;
-    done.answer
+    *desk = calls::without_wish(*desk, option)?;
+    Ok(())
 }
 
 // Keeps the order as a draft.
-pub fn keep(desk: &mut Desk, draft: u32) -> u32
-    ensures { Alters desk.old (keep draft) result desk.new }
+pub fn keep(desk: &mut Desk, draft: u32) -> Result<(), Refusal>
+    ensures { Alters desk.old (keep draft) (answered result) desk.new }
 {
-    let done = calls::with_draft(*desk, draft);
-    *desk = done.desk;
-    done.answer
+    *desk = calls::with_draft(*desk, draft)?;
+    Ok(())
 }
 
 // Returns to a draft: the order is as it was when the draft was last kept.
-pub fn return_to(desk: &mut Desk, draft: u32) -> u32
-    ensures { Alters desk.old (return draft) result desk.new }
+pub fn return_to(desk: &mut Desk, draft: u32) -> Result<(), Refusal>
+    ensures { Alters desk.old (return draft) (answered result) desk.new }
 {
-    let done = calls::at_draft(*desk, draft);
-    *desk = done.desk;
-    done.answer
+    *desk = calls::at_draft(*desk, draft)?;
+    Ok(())
 }

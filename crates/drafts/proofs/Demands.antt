@@ -4,8 +4,7 @@ use mathlib.Core.List.{List}
 use Prim.Native.Nat.{ℕ}
 use Rattle.words.specs.Words.{has, minus}
 use Rattle.drafts.specs.declared.Desk.{Desk}
-use Rattle.drafts.specs.declared.Done.{Done}
-use Rattle.drafts.specs.Desk.{fresh, Call, refusal, after, desk_after}
+use Rattle.drafts.specs.Desk.{Done, fresh, Call, refusal, after, desk_after}
 use Rattle.drafts.specs.Demands.{OneCall, HandedOn, HandedOn.made, HandedOn.lent, RunOfCalls, Examples, Demands}
 use Rattle.drafts.proofs.Calls.{after_refused, clearing_unset, any_desk}
 use Rattle.drafts.proofs.Runs.{fresh_desk, as_for_none, drafts}

@@ -14,8 +14,7 @@ use Rattle.words.proofs.Membership.{has_zero}
 use Rattle.words.proofs.Truth.{or_either, refuted}
 use Rattle.book.specs.Limits.{max_vars}
 use Rattle.drafts.specs.declared.Desk.{Desk}
-use Rattle.drafts.specs.declared.Done.{Done}
-use Rattle.drafts.specs.Desk.{max_drafts, empty_desk, fresh_by, fresh, Call, Call.set, Call.clear, Call.keep, Call.return, options_of, refusal, altered, after, desk_after, Wishes, wishes, draft}
+use Rattle.drafts.specs.Desk.{Done, max_drafts, empty_desk, fresh_by, fresh, Call, Call.set, Call.clear, Call.keep, Call.return, options_of, refusal, altered, after, desk_after, Wishes, wishes, draft}
 use Rattle.drafts.specs.Demands.{Outside, KeptIn, Drafts, Fresh, AsForNone}
 use Rattle.drafts.proofs.Calls.{among_or, keep_in, keep_out, return_kept, after_refused, either_way, keep_after, return_after}
 

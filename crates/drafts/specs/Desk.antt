@@ -4,7 +4,11 @@ use Rattle.std.specs.Int.Bits.{bit_or}
 use Rattle.words.specs.Words.{has, minus}
 use Rattle.book.specs.Limits.{max_vars}
 use Rattle.drafts.specs.declared.Desk.{Desk}
-use Rattle.drafts.specs.declared.Done.{Done}
+
+-- the answer to a call, 0 or the number of a refusal, and the desk after it
+pub record Done : Type 0 where
+  pub desk : Desk
+  pub answer : ℕ
 
 -- how many drafts a desk has
 abbrev pub max_drafts : ℕ

@@ -2,6 +2,7 @@
 #![tactic(auto)]
 
 // A desk for so many options: the current order, which drafts are kept (draft d at bit d - 1), and the order of each draft (in place d - 1).
+// The layout is C's, so the drafts are two arrays.
 #[repr(C)]
 #[derive(Clone, Copy)]
 pub struct Desk {
@@ -11,11 +12,4 @@ pub struct Desk {
     pub kept: u64,
     pub wanteds: [u64; 16],
     pub unwanteds: [u64; 16],
-}
-
-// The answer to a call, 0 or the number of a refusal, and the desk after it.
-#[derive(Clone, Copy)]
-pub struct Done {
-    pub desk: Desk,
-    pub answer: u32,
 }

@@ -11,7 +11,6 @@ ghost use Rattle.sweep.specs.Sweep.{Ready};
 
 use rows::clause::Assignment;
 use rows::state::{Counts, Env};
-use rows::table::Lookup;
 use rows::{clause, records, state, table, tallies};
 
 // Go back up, end with "can", or branch over a variable with the value of its first side.
@@ -29,15 +28,14 @@ fn swept(t: &[u64], q: &[u64], rs: &[u64], e: Env, a: Assignment, s: Counts) -> 
 {
     let m = s.clauses;
     let d = records::last(rs, s.records);
-    let live = words::minus(state::undecided(e, a), d.redundant);
+    let live = state::live(e, a, d);
     if live == 0 {
         if table::any_falsified(q, m) {
             return Turn::Back(s);
         }
         return Turn::Satisfiable(s);
     }
-    let found = table::unit_clause(t, q, m);
-    let Lookup::Found(c) = found else {
+    let Some(c) = table::unit_clause(t, q, m) else {
         return Turn::Branch(words::lowest_of(live), false, s);
     };
     let number = words::lowest_var(words::minus(clause::vars(c), a.decided));
@@ -48,8 +46,8 @@ fn swept(t: &[u64], q: &[u64], rs: &[u64], e: Env, a: Assignment, s: Counts) -> 
     )
 }
 
-// Steps 2 to 5. On a first side v is 0. The tallies are those of the struck set k: on a second side that of the first, all undecided variables, which step 2 strikes
-// too, so that it makes no walk to put the list's set in force.
+// Steps 2 to 5. On a first side v is 0, as in `steps`. The tallies are those of the struck set k: on a second side that of the first, all undecided variables, which
+// step 2 strikes too, so that it makes no walk to put the list's set in force.
 pub fn enter(
     t: &[u64],
     q: &mut [u64],
@@ -64,18 +62,16 @@ pub fn enter(
     ensures { (turn_of t.now rs.new result ≡ Enter (env_of e) (assignment_of a) v (state_of t.now rs.old s)) × TalliedAt t.now q.new rs.new (assignment_of a) (counts_of result) }
 {
     let m = s.clauses;
-    let found = table::falsified_naming(t, q, m, v);
     let d = records::last(rs, s.records);
-    let Lookup::Found(c) = found else {
+    let Some(c) = table::falsified_naming(t, q, m, v) else {
         tallies::unstrike(q, m, k, d.redundant);
         let after = sweep::sweep(t, q, rs, e, a, s);
         return swept(t, q, rs, e, a, after);
     };
-    let all = state::undecided(e, a);
-    if words::minus(all, d.redundant) == 0 {
+    if state::live(e, a, d) == 0 {
         tallies::unstrike(q, m, k, d.redundant);
         return Turn::Back(s);
     }
-    tallies::unstrike(q, m, k, all);
+    tallies::unstrike(q, m, k, state::undecided(e, a));
     Turn::Back(state::append_falsified(rs, e, a, c, s))
 }

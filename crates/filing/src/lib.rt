@@ -1,13 +1,14 @@
 // A page for the file: the outcome of a check as lines of 40 characters, at the start of a lent buffer.
 #![tactic(auto)]
 
-ghost use Rattle.std.specs.Prelude.{◌≡◌, ◌≤◌, length};
+ghost use Rattle.std.specs.Prelude.{◌≡◌, ◌≤◌, ◌<◌, ◌↔◌, length, IsNone};
+ghost use Rattle.std.specs.Option.{unwrap_or};
 ghost use Rattle.order.specs.Values.{order_of};
 ghost use Rattle.report.specs.Text.{Printed};
 ghost use Rattle.page.specs.Page.{page_to, longest};
 ghost use Rattle.page.specs.Filed.{Filed};
 
-use answer::Answer;
+use answer::{Answer, Refusal};
 use book::Book;
 use order::Order;
 
@@ -25,14 +26,15 @@ pub fn page_buffer() -> [u8; LONGEST]
 }
 
 // Checks the book and the order with so many branchings, writes the page at the start of `out`, whose later bytes stay as they are, and gives its length. A buffer
-// that is shorter than the longest page stays as it is, and the length is 0.
-pub fn file(book: &[u8], o: Order, allowance: u32, out: &mut [u8]) -> usize
-    ensures { Filed book.now (order_of o) allowance out.old out.new result }
+// that is shorter than the longest page stays as it is, and there is no length.
+pub fn file(book: &[u8], o: Order, allowance: u32, out: &mut [u8]) -> Option<usize>
+    ensures filed { Filed book.now (order_of o) allowance out.old out.new (unwrap_or result 0) }
+    ensures none { IsNone result ↔ (length out.old < longest) }
 {
     if out.len() < LONGEST {
-        return 0;
+        return None;
     }
-    layout::put_check(book, o, allowance, out)
+    Some(layout::put_check(book, o, allowance, out))
 }
 
 // Writes the page of an input of the program at the start of `out`, whose later bytes stay as they are, and gives its length. It is public for the
@@ -42,7 +44,7 @@ pub fn respond(input: &[u8], out: &mut [u8]) -> usize
     ensures { Printed (page_to input.now) out.old out.new result }
 {
     if input.len() < reply::ORDER_BYTES {
-        return layout::put_page(Answer::Refused(1), &[], &[], out);
+        return layout::put_page(Answer::Refused(Refusal::TooShort), &[], &[], out);
     }
     layout::put_check(
         &input[reply::ORDER_BYTES..],

@@ -4,12 +4,14 @@ use mathlib.Core.Path.{◌≡◌, sym, ap, ap₂, ◌∙◌}
 use mathlib.Core.Bool.{Bool, true, false}
 use mathlib.Core.List.{List, [], ◌++◌, map}
 use mathlib.Core.Option.{some}
-use Prim.Native.Nat.{ℕ, ◌+◌, min, ◌≤◌, ◌<◌}
-use native.Mathlib.Nat.{min-eq_left}
+use Prim.Native.Nat.{ℕ, ◌+◌, ◌≤◌, ◌<◌}
 use native.Mathlib.Omega.{arith}
 use borrow.Author.Tests.{le-ltb}
 use lib.Count.{ones}
 use lib.ListN.{length, get_or}
+use Rattle.std.proofs.Common.{Option, Some, None, Result, Ok, Err, ok_or}
+use Rattle.answer.specs.declared.refusal.Refusal.{Refusal}
+use Rattle.answer.specs.declared.refusal.Refusal.TheVariants.{FaultyPairs}
 use Rattle.words.specs.Words.{minus, first_vars}
 use Rattle.rows.specs.Rows.{clause_words, clauses}
 use Rattle.rows.proofs.Tables.{clauses_length}
@@ -17,41 +19,45 @@ use Rattle.book.specs.Limits.{max_clauses}
 use Rattle.book.specs.Bytes.{book_bytes, vars_in, rules_in, encode}
 use Rattle.book.specs.Refusals.{Row, row, first_row, book_rows}
 use Rattle.book.specs.Reading.{Reading.book, Reading.refused, read}
-use Rattle.book.specs.Written.{placed, written_to}
+use Rattle.book.specs.Written.{Written.Bytes, placed, written_by, written_of, written_to}
+use Rattle.book.specs.declared.encode.WriteError.{WriteError}
+use Rattle.book.specs.declared.encode.WriteError.TheVariants as error
 use Rattle.book.specs.declared.Book as declared
 use Rattle.book.proofs.Refusals.{first_none, first_here, first_later, first_among, first_after}
 use Rattle.book.proofs.Readings.{judged_book, judged_refused}
 use Rattle.book.proofs.Accepted.{bytes_book}
 use Rattle.book.proofs.Encoding.{length_encode}
 use Rattle.renaming.specs.Renaming.{renamed}
-use Rattle.renaming.proofs.Keeping.{literal_below, renamed_same}
+use Rattle.renaming.proofs.Keeping.{renamed_same}
 use Rattle.joint.specs.Pairs.{pair_count, paired, unpaired_below, place}
-use Rattle.joint.specs.Join.{Book, book_in, joint_vars, joint_count, joint_rules, joint_bytes, pairs_fault, too_large, Fitting, joint_rows, left_by, join, Joins}
-use Rattle.joint.specs.declared.Joined.{Joined}
-use Rattle.joint.specs.declared.Joined.TheVariants.{Written, Refused}
+use Rattle.joint.specs.Join.{Book, book_in, joint_vars, joint_count, joint_rules, joint_bytes, pairs_fault, too_large, Fitting, joint_rows, Joined, Joined.Written, Joined.Refused, joined_of, left_by, join, Joins}
 use Rattle.joint.proofs.Pairs.{fits}
 use Rattle.joint.proofs.Places.{below_all, places_into}
 use Rattle.joint.proofs.Judging.{Faultless, faultless, fitting}
 use Rattle.joint.proofs.Choices.{joint_rules_lem}
-use Rattle.joining.specs.Promises.{book_of, Held, Small, Sizes, Writes, JoinsTo, JoinsBooks, judged_as, NoneZero, place_in, Appendable}
-use Rattle.joining.specs.declared.pairs.Paired.TheVariants.{Options, Fault}
+use Rattle.joining.specs.Promises.{book_of, Held, Small, Sizes, Writes, JoinsBooks, judged_as, NoneZero, place_in, Appendable}
 use Rattle.joining.proofs.Judged.{judged_fault, judged_options}
 
 -- ---- sizes and bytes
 
--- how many options of the second book are not among the paired ones
-pub unpaired_count : (m first rest count q : ℕ) → m ≤ 64 → first ≡ first_vars (min m 64) → rest ≡ minus first q → count ≡ ones rest → count ≡ ones (minus (first_vars m) q)
-unpaired_count m first rest count q few ef er ec = ec ∙ ap ones (er ∙ ap (λ w. minus w q) (ef ∙ ap first_vars (min-eq_left few)))
+-- what is written is as long as the book's bytes
+written_ok : (r : Result ℕ WriteError) (size : ℕ) → written_by r ≡ Bytes size → r ≡ Ok size
+written_ok (Ok k) size e = cc
+written_ok (Err (error.Refused k)) size e = cc
+written_ok (Err error.Short) size e = cc
 
 -- a book that fits is written at the beginning
-pub written_whole : (b : declared.Book) (t out after : List ℕ) → book_bytes b.clauses ≤ length out → after ≡ written_to out (book b.vars (clauses t b.clauses))
-    → Writes (book_of b t) out (Written (book_bytes b.clauses)) after
-unfolding written_to
-written_whole b t out after room e =
-    let cs = clauses t b.clauses in
-    let count = clauses_length t b.clauses in
-    let long : length (encode b.vars cs) ≤ length out = omega (arith, length_encode b.vars cs, count) in
-    record { answer = ap (λ m. Written (book_bytes m)) (sym count); out = e ∙ rw (le-ltb _ _ long, written_to) }
+module _ (b : declared.Book) (t out : List ℕ) (room : book_bytes b.clauses ≤ length out) where
+  long : length (encode b.vars (clauses t b.clauses)) ≤ length out
+  long = omega (arith, length_encode b.vars (clauses t b.clauses), clauses_length t b.clauses)
+
+  pub written_whole : (r : Result ℕ WriteError) → written_by r ≡ written_of (length out) (book b.vars (clauses t b.clauses)) → r ≡ Ok (book_bytes (length (clauses t b.clauses)))
+  unfolding written_of
+  written_whole r e = written_ok r _ (e ∙ rw (le-ltb _ _ long, written_of) (ap Bytes (length_encode b.vars (clauses t b.clauses))))
+
+  pub written_after : (after : List ℕ) → after ≡ written_to out (book b.vars (clauses t b.clauses)) → after ≡ placed out 0 (encode b.vars (clauses t b.clauses))
+  unfolding written_to
+  written_after after e = e ∙ rw (le-ltb _ _ long, written_to)
 
 -- ---- two books in work tables
 
@@ -74,11 +80,16 @@ module _ (a b : declared.Book) (t u pairs : List ℕ) (ha : Held a t) (hb : Held
   twenty_three room = row 23 (too_large (joint_vars A B pairs) (joint_count A B) room)
 
   -- a pair at fault
-  pub books_fault : (out : List ℕ) (x : ℕ) → Fault ≡ judged_as (pairs_fault a.vars b.vars pairs) x → JoinsBooks A B pairs out (Refused 22) out
+  pub books_fault :
+      (out : List ℕ) (x : ℕ) (v : Option ℕ) (r : Result ℕ Refusal) → v ≡ None → v ≡ judged_as (pairs_fault a.vars b.vars pairs) x →
+      r ≡ ok_or v FaultyPairs → JoinsBooks A B pairs out (joined_of r) out
   unfolding left_by
-  books_fault out x e = record { left = sym (ap (left_by A B pairs out) (first_here twenty_two _ (judged_fault (pairs_fault a.vars b.vars pairs) x e))) }
+  books_fault out x v r none e er =
+      let faulty = judged_fault (pairs_fault a.vars b.vars pairs) x (sym none ∙ e) in
+      let refused : joined_of r ≡ Refused 22 = ap joined_of (er ∙ ap (λ o. ok_or o FaultyPairs) none) in
+      record { left = ap (λ j. record { answer = j; out = out }) refused ∙ sym (ap (left_by A B pairs out) (first_here twenty_two _ faulty)) }
 
-  module _ (p : ℕ) (passed : Options p ≡ judged_as (pairs_fault a.vars b.vars pairs) (paired pairs)) where
+  module _ (p : ℕ) (passed : Some p ≡ judged_as (pairs_fault a.vars b.vars pairs) (paired pairs)) where
     no_fault : pairs_fault a.vars b.vars pairs ≡ false
     no_fault = (judged_options (pairs_fault a.vars b.vars pairs) (paired pairs) p passed).0
 
@@ -125,28 +136,18 @@ module _ (a b : declared.Book) (t u pairs : List ℕ) (ha : Held a t) (hb : Held
         pub fit : Fitting s.vars s.clauses room
         fit = fitting s.vars s.clauses room (sym er ∙ not-large)
 
+        -- each place is the number of a bit
+        pub bit : (k : ℕ) → k < b.vars → place a.vars pairs k < 64
+        bit k h = omega (arith, places_into a.vars b.vars pairs sides.first sides.second k h, vars_are, fit.vars)
+
+        pub appendable : Appendable a.clauses b.clauses u t
+        appendable =
+            record {
+              from = omega (arith, hb.room, (small b u hb).clauses);
+              room = omega (arith, ha.room, fit.clauses, sizes.clauses);
+            }
+
         module _ (places : List ℕ) (placed-as : (k : ℕ) → k < b.vars → get_or places k 0 ≡ place a.vars pairs k) where
-          -- each place is the number of a bit
-          bit : (k : ℕ) → k < b.vars → get_or places k 0 < 64
-          bit k h =
-              omega (
-                arith,
-                placed-as k h,
-                places_into a.vars b.vars pairs sides.first sides.second k h,
-                vars_are,
-                fit.vars,
-              )
-
-          pub appendable : Appendable a.clauses b.clauses places u t
-          appendable =
-              record {
-                from = omega (arith, hb.room, (small b u hb).clauses);
-                room = omega (arith, ha.room, fit.clauses, sizes.clauses);
-                placeable = λ c h.
-                    let proper = hb.formed.proper c h in
-                    record { pos = λ k m. bit k (literal_below true b.vars c proper k m); neg = λ k m. bit k (literal_below false b.vars c proper k m) };
-              }
-
           -- the clauses that are put together are the joint book's rules
           rules_are :
               (t' : List ℕ) → clauses t' (a.clauses + b.clauses) ≡ clauses t a.clauses ++ map (renamed (place_in places) 64) (clauses u b.clauses) →
@@ -159,11 +160,11 @@ module _ (a b : declared.Book) (t u pairs : List ℕ) (ha : Held a t) (hb : Held
 
           -- and its bytes are written
           pub books_written :
-              (out after t' : List ℕ) (answer : Joined) → length out ≡ room →
+              (out after t' : List ℕ) (count : ℕ) → length out ≡ room →
               clauses t' (a.clauses + b.clauses) ≡ clauses t a.clauses ++ map (renamed (place_in places) 64) (clauses u b.clauses) →
-              Writes (book_of s t') out answer after → JoinsBooks A B pairs out answer after
+              Writes (book_of s t') out count after → JoinsBooks A B pairs out (Written count) after
           unfolding left_by joint_bytes
-          books_written out after t' answer same put writes =
+          books_written out after t' count same put writes =
               let bytes : encode s.vars (clauses t' s.clauses) ≡ joint_bytes A B pairs = ap₂ encode vars_are (rules_are t' put) in
               let size : book_bytes (length (clauses t' s.clauses)) ≡ length (joint_bytes A B pairs) =
               sym (length_encode s.vars (clauses t' s.clauses)) ∙ ap length bytes
@@ -173,7 +174,7 @@ module _ (a b : declared.Book) (t u pairs : List ℕ) (ha : Held a t) (hb : Held
               in
               record {
                 left =
-                    ap₂ (λ x y. record { answer = x; out = y }) (writes.answer ∙ ap Written size) (writes.out ∙ ap (placed out 0) bytes)
+                    ap₂ (λ x y. record { answer = x; out = y }) (ap Written (writes.bytes ∙ size)) (writes.out ∙ ap (placed out 0) bytes)
                     ∙ sym (ap (left_by A B pairs out) (first_later twenty_two _ no_fault ∙ first_later (twenty_three (length out)) [] passes ∙ first_none));
               }
 
@@ -197,32 +198,32 @@ held bytes b t room e = record { room = room; formed = (bytes_book bytes b.vars 
 
 -- ---- the second book, and then the first
 
-pub second_refused : (a : Book) (second pairs out : List ℕ) (k : ℕ) → refused k ≡ read second → JoinsTo a second pairs out (Refused k) out
-unfolding left_by
-second_refused a second pairs out k e = record { left = sym (ap (left_by a (book_in second) pairs out) (rows_refused second _ k e)) }
+module _ (second pairs out : List ℕ) where
+  -- the first book's rows are passed, and it is this one
+  pub second_refused :
+      (first : List ℕ) (a : declared.Book) (t : List ℕ) (k : ℕ) → book a.vars (clauses t a.clauses) ≡ read first → refused k ≡ read second →
+      Joins first second pairs out (Refused k) out
+  unfolding join left_by
+  second_refused first a t k ea e =
+      let passed = (rows_passed first _ a t ea).0 ∙ rows_refused second _ k e in
+      record { left = sym (ap (left_by (book_in first) (book_in second) pairs out) passed) }
 
-pub second_read : (a : Book) (second pairs out : List ℕ) (b : declared.Book) (u : List ℕ) (r : Joined) (after : List ℕ)
-    → book b.vars (clauses u b.clauses) ≡ read second → JoinsBooks a (book_of b u) pairs out r after → JoinsTo a second pairs out r after
-second_read a second pairs out b u r after e j =
-    let same = (rows_passed second [] b u e).1 in
-    record {
-      left =
-          j.left ∙ ap (λ x. left_by a x pairs out (first_row (joint_rows a x pairs (length out)))) same
-          ∙ ap (left_by a (book_in second) pairs out) (sym (rows_passed second (joint_rows a (book_in second) pairs (length out)) b u e).0);
-    }
+  pub first_refused : (first : List ℕ) (k : ℕ) → refused k ≡ read first → Joins first second pairs out (Refused k) out
+  unfolding join left_by
+  first_refused first k e = record { left = sym (ap (left_by (book_in first) (book_in second) pairs out) (rows_refused first _ k e)) }
 
-pub first_refused : (first second pairs out : List ℕ) (k : ℕ) → refused k ≡ read first → Joins first second pairs out (Refused k) out
-unfolding join left_by
-first_refused first second pairs out k e = record { left = sym (ap (left_by (book_in first) (book_in second) pairs out) (rows_refused first _ k e)) }
-
-pub first_read : (first second pairs out : List ℕ) (a : declared.Book) (t : List ℕ) (r : Joined) (after : List ℕ)
-    → book a.vars (clauses t a.clauses) ≡ read first → JoinsTo (book_of a t) second pairs out r after → Joins first second pairs out r after
-unfolding join
-first_read first second pairs out a t r after e j =
-    let b = book_in second in
-    let same = (rows_passed first [] a t e).1 in
-    record {
-      left =
-          j.left ∙ ap (λ x. left_by x b pairs out (first_row (book_rows second ++ joint_rows x b pairs (length out)))) same
-          ∙ ap (left_by (book_in first) b pairs out) (sym (rows_passed first (book_rows second ++ joint_rows (book_in first) b pairs (length out)) a t e).0);
-    }
+  -- both are read
+  pub both_read :
+      (first : List ℕ) (a b : declared.Book) (t u : List ℕ) (r : Joined) (after : List ℕ) → book a.vars (clauses t a.clauses) ≡ read first →
+      book b.vars (clauses u b.clauses) ≡ read second → JoinsBooks (book_of a t) (book_of b u) pairs out r after → Joins first second pairs out r after
+  unfolding join
+  both_read first a b t u r after ea eb j =
+      let A = book_in first in
+      let B = book_in second in
+      let rows = (rows_passed first (book_rows second ++ joint_rows A B pairs (length out)) a t ea).0 ∙ (rows_passed second (joint_rows A B pairs (length out)) b u eb).0 in
+      record {
+        left =
+            j.left
+            ∙ ap₂ (λ x y. left_by x y pairs out (first_row (joint_rows x y pairs (length out)))) (rows_passed first [] a t ea).1 (rows_passed second [] b u eb).1
+            ∙ ap (left_by A B pairs out) (sym rows);
+      }

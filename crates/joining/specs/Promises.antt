@@ -1,22 +1,17 @@
 -- What the functions under the entry point ask and promise.
-use Rattle.std.specs.Prelude.{◌≡◌, Bool, true, false, ℕ, ◌+◌, ◌≤◌, ◌<◌, length, get_or}
-use mathlib.Core.List.{List, ◌++◌, Memᴰ}
+use Rattle.std.specs.Prelude.{◌≡◌, Bool, true, false, Option, Some, None, ℕ, ◌+◌, ◌≤◌, ◌<◌, length, get_or}
+use mathlib.Core.List.{List}
 use Rattle.std.specs.Int.Count.{ones}
-use Rattle.words.specs.Words.{has, minus, first_vars}
-use Rattle.steps.specs.Clause.{Clause}
+use Rattle.words.specs.Words.{minus, first_vars}
 use Rattle.rows.specs.Rows.{clause_words, clauses}
 use Rattle.book.specs.Limits.{max_vars, max_clauses}
 use Rattle.book.specs.Bytes.{book_bytes, encode}
 use Rattle.book.specs.Written.{placed}
-use Rattle.book.specs.Refusals.{first_row, book_rows}
+use Rattle.book.specs.Refusals.{first_row}
 use Rattle.book.specs.Reading.{WellFormed}
 use Rattle.book.specs.declared.Book as declared
 use Rattle.joint.specs.Pairs.{pair_count, option}
-use Rattle.joint.specs.Join.{Book, book_in, joint_rows, left_by}
-use Rattle.joint.specs.declared.Joined.{Joined}
-use Rattle.joint.specs.declared.Joined.TheVariants.{Written}
-use Rattle.joining.specs.declared.pairs.Paired.{Paired}
-use Rattle.joining.specs.declared.pairs.Paired.TheVariants.{Options, Fault}
+use Rattle.joint.specs.Join.{Book, joint_rows, left_by, Joined}
 
 -- ---- books in work tables
 
@@ -39,27 +34,21 @@ pub record Sizes (a b : declared.Book) (paired : ℕ) (r : declared.Book) : Type
   pub vars : r.vars ≡ a.vars + ones (minus (first_vars b.vars) paired)
   pub clauses : r.clauses ≡ a.clauses + b.clauses
 
--- the book is written at the beginning of the buffer
-pub record Writes (b : Book) (before : List ℕ) (r : Joined) (after : List ℕ) : Type 0 where
-  pub answer : r ≡ Written (book_bytes (length b.rules))
+-- so many bytes of the book are written at the beginning of the buffer
+pub record Writes (b : Book) (before : List ℕ) (size : ℕ) (after : List ℕ) : Type 0 where
+  pub bytes : size ≡ book_bytes (length b.rules)
   pub out : after ≡ placed before 0 (encode b.vars b.rules)
 
--- the first book was read: 1 to 6 of the second, 22 and 23
-pub record JoinsTo (a : Book) (second pairs before : List ℕ) (r : Joined) (after : List ℕ) : Type 0 where
-  pub left :
-      record { answer = r; out = after } ≡
-      left_by a (book_in second) pairs before (first_row (book_rows second ++ joint_rows a (book_in second) pairs (length before)))
-
--- both were: 22 and 23
+-- both books were read: 22 and 23
 pub record JoinsBooks (a b : Book) (pairs before : List ℕ) (r : Joined) (after : List ℕ) : Type 0 where
   pub left : record { answer = r; out = after } ≡ left_by a b pairs before (first_row (joint_rows a b pairs (length before)))
 
 -- ---- pairs
 
--- at fault, or these options
-unfoldable pub judged_as : Bool → ℕ → Paired
-judged_as true options = Fault
-judged_as false options = Options options
+-- nothing where they are at fault, and else these options
+unfoldable pub judged_as : Bool → ℕ → Option ℕ
+judged_as true options = None
+judged_as false options = Some options
 
 -- no pair has option 0 of the first book
 abbrev pub NoneZero : List ℕ → Type 0
@@ -71,16 +60,7 @@ NoneZero pairs = (i : ℕ) → i < pair_count pairs → 0 < option 0 pairs i
 abbrev pub place_in : List ℕ → ℕ → ℕ
 place_in places k = get_or places k 0
 
--- each member's place is the number of a bit
-abbrev pub Placeable : List ℕ → ℕ → Type 0
-Placeable places word = (k : ℕ) → has word k ≡ true → get_or places k 0 < 64
-
-pub record PlaceableClause (places : List ℕ) (c : Clause) : Type 0 where
-  pub pos : Placeable places c.pos
-  pub neg : Placeable places c.neg
-
 -- the first `count` clauses of u can be put into t after its first m
-pub record Appendable (m count : ℕ) (places u t : List ℕ) : Type 0 where
+pub record Appendable (m count : ℕ) (u t : List ℕ) : Type 0 where
   pub from : clause_words count ≤ length u
   pub room : clause_words (m + count) ≤ length t
-  pub placeable : (c : Clause) → Memᴰ c (clauses u count) → PlaceableClause places c

@@ -19,9 +19,8 @@ use Rattle.book.specs.Conditions.{First, Decides, book_conditions}
 use Rattle.book.proofs.Refusals.{decides_append, first_iff, none_iff}
 use Rattle.book.proofs.Conditions.{book_decides}
 use Rattle.joint.specs.Pairs.{pair_count, option, options_of, at_fault, side_fault}
-use Rattle.joint.specs.Join.{book_in, joint_vars, joint_count, joint_bytes, pairs_fault, too_large, Fitting, joint_rows, join_rows, left_by, join}
+use Rattle.joint.specs.Join.{book_in, joint_vars, joint_count, joint_bytes, pairs_fault, too_large, Fitting, joint_rows, join_rows, left_by, join, Joined.Written, Joined.Refused}
 use Rattle.joint.specs.Demands.{Incomplete, Outside, NamesOutside, AlreadyPaired, pairs_condition, size_condition, joint_conditions, join_conditions, RefusedOrWritten, IsWritten}
-use Rattle.joint.specs.declared.Joined.TheVariants.{Written, Refused}
 use Rattle.joint.proofs.Pairs.{options_are, fits, fault_somewhere, distinct}
 use Rattle.joint.proofs.Numbers.{pair_below, pair_first, pair_second, is_pair}
 

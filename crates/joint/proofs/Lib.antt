@@ -4,6 +4,5 @@ pub mod Places
 pub mod Numbers
 pub mod Judging
 pub mod Choices
-pub mod Handing
 pub mod Examples
 pub mod Demands

@@ -14,9 +14,8 @@ use Rattle.book.specs.Reading.{Reading.book, read}
 use Rattle.book.specs.Conditions.{Condition, condition, First, NoRow, NamesAbove, InBoth, book_conditions}
 use Rattle.renaming.specs.Demands.{Named}
 use Rattle.joint.specs.Pairs.{place}
-use Rattle.joint.specs.Join.{Book, book_in, joint_vars, joint_count, joint_rules, join}
+use Rattle.joint.specs.Join.{Book, book_in, joint_vars, joint_count, joint_rules, join, Joined.Written, Joined.Refused}
 use Rattle.joint.specs.Handed.{Hands}
-use Rattle.joint.specs.declared.Joined.TheVariants.{Written, Refused}
 
 -- ---- refusals
 

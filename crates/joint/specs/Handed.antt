@@ -1,8 +1,6 @@
 -- What the exported function hands over: a number, the length in the caller's place, and the buffer.
 use Rattle.std.specs.Prelude.{◌≡◌, List, ℕ}
-use Rattle.joint.specs.Join.{join}
-use Rattle.joint.specs.declared.Joined.{Joined}
-use Rattle.joint.specs.declared.Joined.TheVariants.{Written, Refused}
+use Rattle.joint.specs.Join.{join, Joined, Joined.Written, Joined.Refused}
 
 -- 0 where the joint book is written, and else the number of the refusal
 abbrev pub number_of : Joined → ℕ

@@ -1,6 +1,8 @@
 -- The joint book of two books and pairs of their options, its refusals, and what joining leaves in a lent buffer.
-use Rattle.std.specs.Prelude.{◌≡◌, Bool, ◌||◌, List, [], ◌∷◌, ◌++◌, map, ℕ, ◌+◌, ◌-◌, ◌≤◌, ltb, length}
+use Rattle.std.specs.Prelude.{◌≡◌, Bool, ◌||◌, Result, Ok, Err, List, [], ◌∷◌, ◌++◌, map, ℕ, ◌+◌, ◌-◌, ◌≤◌, ltb, length}
 use Rattle.std.proofs.Math.Option.{Option, some, none}
+use Rattle.answer.specs.declared.refusal.Refusal.{Refusal}
+use Rattle.answer.specs.Numbers.{refusal_number}
 use Rattle.words.specs.Words.{odd}
 use Rattle.steps.specs.Clause.{Clause}
 use Rattle.book.specs.Limits.{max_vars, max_clauses}
@@ -9,8 +11,6 @@ use Rattle.book.specs.Refusals.{Row, row, first_row, book_rows}
 use Rattle.book.specs.Written.{placed}
 use Rattle.renaming.specs.Renaming.{renamed}
 use Rattle.joint.specs.Pairs.{pair_count, side_fault, place}
-use Rattle.joint.specs.declared.Joined.{Joined}
-use Rattle.joint.specs.declared.Joined.TheVariants.{Written, Refused}
 
 -- ---- the joint book
 
@@ -64,6 +64,16 @@ abbrev pub join_rows : List ℕ → List ℕ → List ℕ → ℕ → List Row
 join_rows first second pairs room = book_rows first ++ (book_rows second ++ joint_rows (book_in first) (book_in second) pairs room)
 
 -- ---- joining
+
+-- how many bytes of the joint book were written, or the number of the refusal
+pub data Joined : Type 0 where
+  Written : ℕ → Joined
+  Refused : ℕ → Joined
+
+-- what the code gives
+abbrev pub joined_of : Result ℕ Refusal → Joined
+joined_of (Ok size) = Written size
+joined_of (Err r) = Refused (refusal_number r)
 
 -- what is left: the answer, and the buffer
 pub record Left : Type 0 where

@@ -6,9 +6,7 @@ use native.Mathlib.Omega.{arith}
 use lib.ListN.{length, take}
 use Rattle.steps.specs.Clause.{Clause}
 use Rattle.order.specs.Order.{Order}
-use Rattle.answer.specs.Answer.{tally_of, tally_in}
-use Rattle.answer.specs.declared.Answer.{Answer}
-use Rattle.answer.specs.declared.Answer.TheVariants.{Refused}
+use Rattle.answer.specs.Answer.{tally_of, tally_in, Answer, Answer.Refused}
 use Rattle.contract.specs.Check.{Result, Result.refused, Result.ran, check}
 use Rattle.contract.specs.Filled.{Tables, lengths, answer_of, filled, Checked}
 use Rattle.contract.specs.Demands.{rules_of, derived_in}

@@ -1,12 +1,13 @@
 -- The text of a rule in a buffer of its own, and its line: the blank before the text is written with it.
-use mathlib.Core.Path.{◌≡◌, sym, ap, ap₂, ◌∙◌, subst}
-use mathlib.Core.List.{List, [], ◌++◌}
+use mathlib.Core.Path.{◌≡◌, refl, sym, ap, ◌∙◌, subst}
+use mathlib.Core.List.{List, [], ◌∷◌, ◌++◌}
+use mathlib.Core.Logic.{◌⊎◌, inl, inr}
 use Prim.Native.Nat.{ℕ, suc, ◌+◌, ◌-◌, ◌^◌, ◌≤◌, ◌<◌}
 use native.Mathlib.Numerals.{add-one}
 use native.Mathlib.Omega.{arith}
 use lib.Bits.{bit_or}
 use lib.Count.{ones, ones-le}
-use lib.ListN.{length, take, drop, get_or}
+use lib.ListN.{length, take, drop}
 use lib.Seq.{take_at}
 use Rattle.words.specs.Words.{first_vars}
 use Rattle.words.proofs.Sets.{within_lt, lt_within, or_within}
@@ -16,21 +17,40 @@ use Rattle.report.specs.Ascii.{ascii}
 use Rattle.report.specs.Decimal.{decimal}
 use Rattle.report.specs.Fields.{blanks, set_left, set_right}
 use Rattle.report.specs.Text.{Printed}
-use Rattle.report.specs.Write.{Wrote}
-use Rattle.report.proofs.Parts.{first_more, first_none}
-use Rattle.report.proofs.Writing.{printed, printed_within}
+use Rattle.report.specs.Writer.{Free, Writes}
+use Rattle.report.specs.declared.writer.Writer.{Writer}
+use Rattle.report.proofs.Writing.{printed, printed_within, wrote_long}
 use Rattle.page.specs.Entries.{entries, spaced, counted, rule_room, shown}
 use Rattle.page.specs.Page.{rule_line, rule_lines}
 use Rattle.page.proofs.Entries.{entries_counted}
-use Rattle.page.proofs.Text.{shown_counted}
-use Rattle.layout.specs.Layout.{Begins}
+use Rattle.page.proofs.Text.{shown_counted, entries_short}
+use Rattle.layout.specs.Layout.{Begins, Started}
 
 -- a text that was written at the start of a buffer, by another name
-pub begins : {text same before after : List ℕ} {r : ℕ} → text ≡ same → Wrote before 0 text after r → Begins same after r
-begins {text} {same} {before} {after} {r} e w =
-    let p : Printed text before after r = printed w in
-    subst (λ (t : List ℕ). Begins t after r) e
-    (record { first = ap (take r) p.bytes ∙ take_at text (drop (length text) before) r (sym p.size); size = p.size; within = printed_within p })
+begins : {text same : List ℕ} {before after : Writer} → text ≡ same → before.at ≡ 0 → Writes before text after → Begins same after.out.now after.at
+begins {text} {same} {before} {after} e start w =
+    let p : Printed text before.out.now after.out.now after.at = printed (rw start at w.wrote) in
+    subst (λ (t : List ℕ). Begins t after.out.now after.at) e
+    (record { first = ap (take after.at) p.bytes ∙ take_at text (drop (length text) before.out.now) after.at (sym p.size); size = p.size; within = printed_within p })
+
+-- by a writer that wrote there before
+pub started_after : {text same : List ℕ} {before over after : Writer} → over.out.ghost_name ≡ before.out.ghost_name → text ≡ same → over.at ≡ 0 → Writes over text after → Started before same after
+started_after is e start w = record { begins = begins e start w; same = w.same ∙ is }
+
+pub started : {text same : List ℕ} {before after : Writer} → text ≡ same → before.at ≡ 0 → Writes before text after → Started before same after
+started = started_after refl
+
+-- the buffer ends as what the writer holds, which is the same one
+pub begun : {before after : Writer} {text out : List ℕ} → Started before text after → (before.out.ghost_name ≡ after.out.ghost_name → out ≡ after.out.now) → Begins text out after.at
+begun s ends = rw (ends (sym s.same)) s.begins
+
+-- the entries of a rule have room in a buffer of 256 bytes
+pub entries_free : (w : Writer) (c : Clause) → w.at ≡ 0 → 256 ≤ length w.out.now → Free w (spaced (entries c))
+entries_free w c start long = record { room = record { fits = omega (arith, entries_short c) } }
+
+-- which stays as long as it was
+pub entries_long : {w next : Writer} (c : Clause) → w.at ≡ 0 → 256 ≤ length w.out.now → Writes w (spaced (entries c)) next → 256 ≤ length next.out.now
+entries_long {w} c start long wrote = omega (arith, wrote_long (entries_free w c start long).room wrote.wrote)
 
 -- two words of 64 bits, and both together
 module _ (c : Clause) (p : c.pos < 2 ^ 64) (n : c.neg < 2 ^ 64) where
@@ -58,17 +78,17 @@ rule_written n c t e =
     ap (λ (k : ℕ). set_right 4 (decimal n) ++ (ascii " " ++ ((text ++ blanks k) ++ ascii "\n"))) same
     ∙ ap (λ (l : List ℕ). set_right 4 (decimal n) ++ ((l ++ blanks (suc rule_room - length l)) ++ ascii "\n")) (sym e)
 
--- the lines of the first k rules of two tables, from place i on
-module _ (k i : ℕ) (ps ns : List ℕ) where
-  pub rules_more :
-      i < k → k ≤ length ps → k ≤ length ns →
-      rule_lines (i + 1) (rules_of (drop i (take k ps)) (drop i (take k ns)))
-      ≡ rule_line (i + 1) (record { pos = get_or ps i 0; neg = get_or ns i 0 }) ++ rule_lines (i + 1 + 1) (rules_of (drop (i + 1) (take k ps)) (drop (i + 1) (take k ns)))
-  unfolding rule_lines
-  rules_more h fp fn =
-      ap₂ (λ (xs ys : List ℕ). rule_lines (i + 1) (rules_of xs ys)) (first_more k ps i h fp) (first_more k ns i h fn)
-      ∙ ap (λ (j : ℕ). rule_line (i + 1) (record { pos = get_or ps i 0; neg = get_or ns i 0 }) ++ rule_lines j (rules_of (drop (i + 1) (take k ps)) (drop (i + 1) (take k ns)))) (sym (add-one (i + 1)))
+-- the lines of rules of which one is left at least
+pub rules_more :
+    (k : ℕ) {p n : ℕ} {ps ps' ns ns' : List ℕ} → (ps ≡ p ∷ ps') × (ns ≡ n ∷ ns')
+    → rule_lines k (rules_of ps ns) ≡ rule_line k (record { pos = p; neg = n }) ++ rule_lines (k + 1) (rules_of ps' ns')
+unfolding rule_lines
+rules_more k e = rw (e.0, e.1, add-one) refl
 
-  pub rules_none : k ≤ i → rule_lines (i + 1) (rules_of (drop i (take k ps)) (drop i (take k ns))) ≡ []
-  unfolding rule_lines
-  rules_none h = ap (λ (xs : List ℕ). rule_lines (i + 1) (rules_of xs (drop i (take k ns)))) (first_none k ps i h)
+-- and of none, where the one table or the other is at its end
+pub rules_none : (k : ℕ) (ps ns : List ℕ) → (length ps ≡ 0) ⊎ (length ns ≡ 0) → rule_lines k (rules_of ps ns) ≡ []
+unfolding rule_lines
+rules_none k [] ns e = refl
+rules_none k (p ∷ ps) [] e = refl
+rules_none k (p ∷ ps) (n ∷ ns) (inl e) = absurd (omega arith)
+rules_none k (p ∷ ps) (n ∷ ns) (inr e) = absurd (omega arith)

@@ -1,9 +1,9 @@
 -- What the functions between the check and the page need and give.
 use Rattle.std.specs.Prelude.{◌≡◌, List, ℕ, ◌^◌, ◌≤◌, ◌<◌, length, take}
-use Rattle.answer.specs.Answer.{tally_in, number_in}
-use Rattle.answer.specs.declared.Answer.{Answer}
+use Rattle.answer.specs.Answer.{tally_in, number_in, Answer}
 use Rattle.book.specs.Limits.{max_derived}
 use Rattle.contract.specs.Demands.{rules_of}
+use Rattle.report.specs.declared.writer.Writer.{Writer}
 use Rattle.page.specs.Page.{page_text}
 
 -- the text stands at the start of the buffer, and r is its length
@@ -11,6 +11,11 @@ pub record Begins (text after : List ℕ) (r : ℕ) : Type 0 where
   pub first : take r after ≡ text
   pub size : r ≡ length text
   pub within : r ≤ length after
+
+-- the text stands at the start of the writer's buffer, which is the same one, and the place is after it
+pub record Started (before : Writer) (text : List ℕ) (after : Writer) : Type 0 where
+  pub begins : Begins text after.out.now after.at
+  pub same : after.out.ghost_name ≡ before.out.ghost_name
 
 -- the derived rules of an answer are within two tables, and no more than are permitted; its number and its branchings have at most ten digits
 pub record Fit (a : Answer) (ps ns : List ℕ) : Type 0 where

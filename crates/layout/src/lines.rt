@@ -1,55 +1,47 @@
-// The lines of the page. Each function writes at a place and gives the place after its lines.
-ghost use Rattle.std.specs.Prelude.{◌≤◌, ◌<◌, ◌^◌, length, take};
+// The lines of the page.
+ghost use Rattle.std.specs.Prelude.{◌<◌, ◌^◌, length};
 ghost use Rattle.answer.specs.Answer.{tally_in};
-ghost use Rattle.report.specs.Fields.{set_left};
-ghost use Rattle.report.specs.Text.{word_text};
-ghost use Rattle.report.specs.Write.{Room, Wrote};
-ghost use Rattle.page.specs.Page.{first_line, rule_lines};
+ghost use Rattle.answer.specs.Numbers.{by_number};
+ghost use Rattle.report.specs.Writer.{Free, Writes};
+ghost use Rattle.page.specs.Page.{first_line, rule_lines, page_text};
 ghost use Rattle.contract.specs.Demands.{rules_of};
 
 use crate::rule::put_rule;
 use answer::Answer;
-use report::fields::{put_left, put_right};
-use report::put::put_byte;
-
-// The word of the answer in its field.
-fn put_word(a: Answer, out: &mut [u8], at: usize) -> usize
-    requires { Room out.old at (set_left 10 (word_text a)) }
-    ensures { Wrote out.old at (set_left 10 (word_text a)) out.new result }
-{
-    match a {
-        Answer::Can(_) => put_left(b"can", 10, out, at),
-        Answer::Cannot(_) => put_left(b"cannot", 10, out, at),
-        Answer::Refused(_) => put_left(b"refused", 10, out, at),
-        Answer::Stopped(_, _) => put_left(b"stopped", 10, out, at),
-    }
-}
+use report::Writer;
 
 // The first line: the word of the answer, its number, and the counts of branchings and derived rules.
-pub fn put_first(a: Answer, out: &mut [u8], at: usize) -> usize
-    requires a_bound { (tally_in a).derived < 10 ^ 10 }
-    requires room { Room out.old at (first_line a) }
-    ensures { Wrote out.old at (first_line a) out.new result }
+fn put_first(a: Answer, out: &mut Writer<'_>)
+    requires a_bound { (tally_in (by_number a)).derived < 10 ^ 10 }
+    requires room { Free out.old (first_line (by_number a)) }
+    ensures { Writes out.old (first_line (by_number a)) out.new }
 {
     let tally = answer::tally_of(a);
-    let word = put_word(a, out, at);
-    let number = put_right(answer::number_of(a) as u64, 10, out, word);
-    let branchings = put_right(tally.branchings as u64, 10, out, number);
-    let derived = put_right(tally.derived as u64, 10, out, branchings);
-    put_byte(10, out, derived)
+    out.left(report::printed_word(a), 10);
+    out.right(answer::number_of(a) as u64, 10);
+    out.right(tally.branchings as u64, 10);
+    out.right(tally.derived as u64, 10);
+    out.byte(b'\n');
 }
 
-// The lines of the first rules of two tables of words, numbered from 1.
-pub fn put_rules(pos: &[u64], neg: &[u64], count: usize, out: &mut [u8], at: usize) -> usize
-    requires count_in_bounds { (count ≤ length pos.now) × (count ≤ length neg.now) × (count < 10 ^ 4) }
-    requires room { Room out.old at (rule_lines 1 (rules_of (take count pos.now) (take count neg.now))) }
-    ensures { Wrote out.old at (rule_lines 1 (rules_of (take count pos.now) (take count neg.now))) out.new result }
+// The lines of the rules of two tables of words, numbered from 1.
+fn put_rules(pos: &[u64], neg: &[u64], out: &mut Writer<'_>)
+    requires few { length pos.now < 10 ^ 4 }
+    requires room { Free out.old (rule_lines 1 (rules_of pos.now neg.now)) }
+    ensures { Writes out.old (rule_lines 1 (rules_of pos.now neg.now)) out.new }
 {
-    let mut next = at;
-    let mut i: usize = 0;
-    while i < count {
-        next = put_rule(i as u64 + 1, pos[i], neg[i], out, next);
-        i += 1;
+    for (i, (p, n)) in pos.iter().zip(neg).enumerate() {
+        put_rule(i as u64 + 1, *p, *n, out);
     }
-    next
+}
+
+// The whole page: the first line, and those of the rules.
+pub fn put_lines(a: Answer, pos: &[u64], neg: &[u64], out: &mut Writer<'_>)
+    requires a_bound { (tally_in (by_number a)).derived < 10 ^ 10 }
+    requires few { length pos.now < 10 ^ 4 }
+    requires room { Free out.old (page_text (by_number a) (rules_of pos.now neg.now)) }
+    ensures { Writes out.old (page_text (by_number a) (rules_of pos.now neg.now)) out.new }
+{
+    put_first(a, out);
+    put_rules(pos, neg, out);
 }

@@ -19,7 +19,7 @@ use Rattle.words.proofs.Sets.{minus_within, meets_false_intro}
 use Rattle.words.proofs.Count.{ones_within}
 use Rattle.steps.specs.Lists.{find, or_else}
 use Rattle.steps.specs.Clause.{Clause, Assignment, DSequent, decide, falsified, last, without}
-use Rattle.steps.specs.State.{Env, State, Side.up, undecided, redundant, recorded, append}
+use Rattle.steps.specs.State.{Env, State, Side, Side.up, undecided, redundant, recorded, append}
 use Rattle.steps.specs.Notes.{in_play, gather}
 use Rattle.steps.specs.Sweep.{inactive_by, monotone, strike}
 use Rattle.steps.specs.Enter.{falsified_naming}
@@ -34,11 +34,13 @@ use Rattle.steps.proofs.ShapeKeep.{last_recorded, records_few, undecided_within,
 use Rattle.steps.proofs.ShapeSides.{undecided_fewer}
 use Rattle.steps.proofs.ShapeMerge.{shape_join, join_redundant}
 use Rattle.steps.proofs.Nesting.{undecided_one_fewer, undecided_at_most_n}
-use Rattle.rows.specs.Values.{assignment_of, env_of}
-use Rattle.rows.specs.Rows.{state_of, sequent_words}
-use Rattle.rows.specs.Tally.{Variable}
+use Rattle.rows.specs.Values.{assignment_of, env_of, sequent_of}
+use Rattle.rows.specs.Rows.{clause_words, sequents, state_of, sequent_words}
+use Rattle.rows.specs.Tally.{Tallied, Variable}
+use Rattle.sweep.specs.Sweep.{Striking}
 use Rattle.merge.specs.Needs.{AllButOne, Mergeable}
 use Rattle.rows.specs.declared.clause.Assignment as work
+use Rattle.rows.specs.declared.records.DSequent as records
 use Rattle.rows.specs.declared.state.Counts.{Counts}
 use Rattle.rows.specs.declared.state.Env as limits
 use Rattle.words.proofs.Truth.{when_true, when_false}
@@ -63,6 +65,20 @@ pub struck_apart : {t q rs : List ℕ} {e : limits.Env} {a : work.Assignment} {v
 struck_apart {t} {q} {rs} {e} {a} {v} {s} x =
     ap (λ (k : ℕ). meets k a.decided) x.others
     ∙ meets_false_intro _ a.decided (λ k h. undecided_not_decided (env_of e) (assignment_of a) k (minus_within (undecided (env_of e) (assignment_of a)) v k h))
+
+-- and it can be struck, by either literal. d is the last D-sequent
+pub strikes : {t q rs : List ℕ} {e : limits.Env} {a : work.Assignment} {v : ℕ} {s : Counts} {b : Bool} {d : records.DSequent}
+    → AllButOne t q rs e a v s
+    → sequent_of d ≡ last (sequents rs s.records)
+    → Striking t q rs (record { var = v; sign = b }) (assignment_of a) d s
+strikes {e = e} {a} {v} x is =
+    record {
+      variable = branched_variable e a v x.vars x.branched;
+      table = x.table;
+      next = x.next;
+      last = is;
+      tallied = x.tallied;
+    }
 
 -- ---- the join
 
@@ -139,39 +155,38 @@ module _ {t rs : List ℕ} {e : limits.Env} {a : work.Assignment} {v : ℕ} {b :
       (sequents_length rs s.records)
       (second_few (env_of e) (assignment_of a) v (not b) (state_of t rs s) m.branched m.second)
 
-  -- the joined state, with its list in rs'
-  module _ (rs' : List ℕ) (j : Counts) (is : state_of t rs' j ≡ join (env_of e) (assignment_of a) v r (state_of t rs s)) where
-    -- as many clauses
-    pub joined_clauses : j.clauses ≡ s.clauses
-    joined_clauses =
-        as_many
-        t
-        j.clauses
-        s.clauses
-        (ap (λ (x : State). x.table) is ∙ join_table (env_of e) (assignment_of a) v r (state_of t rs s))
+-- the joined state: it has as many clauses, so that what is tallied of the second side's is tallied of it, and room for one more D-sequent. It is a point, at which every
+-- undecided variable but v is struck
+pub record Joined (t rs' : List ℕ) (e : limits.Env) (a : work.Assignment) (v m : ℕ) (j : Counts) : Type 0 where
+  pub allowed : j.clauses ≤ e.capacity
+  pub table : clause_words j.clauses ≤ length t
+  pub room : sequent_words (j.records + 1) ≤ length rs'
+  pub second : {q : List ℕ} {b : Assignment} {k : ℕ} → Tallied t q m b k → Tallied t q j.clauses b k
+  pub shape : Shape (env_of e) (assignment_of a) (state_of t rs' j)
+  pub others : redundant (state_of t rs' j) ≡ minus (undecided (env_of e) (assignment_of a)) v
 
-    -- fewer D-sequents than variables
-    joined_records : j.records < e.vars
-    joined_records =
-        subst
-        (λ (k : ℕ). k < e.vars)
-        (sym (ap (λ (x : State). length x.records) is) ∙ sequents_length rs' j.records)
-        (join_few (env_of e) (assignment_of a) v b r (state_of t rs s) m.branched m.trues m.first m.second)
-
-    -- so there is room for one more
-    pub joined_room : length rs' ≡ length rs → sequent_words (j.records + 1) ≤ length rs'
-    joined_room same = omega (arith, joined_records, m.room, same)
-
-    -- it is a point, at which every undecided variable but v is struck
-    pub joined_shape : Shape (env_of e) (assignment_of a) (state_of t rs' j)
-    joined_shape =
-        subst⁻¹
-        (Shape (env_of e) (assignment_of a))
-        is
-        (shape_join (env_of e) (assignment_of a) v b r (state_of t rs s) m.second m.trues m.first)
-
-    pub joined_others : redundant (state_of t rs' j) ≡ minus (undecided (env_of e) (assignment_of a)) v
-    joined_others = ap redundant is ∙ join_redundant (env_of e) (assignment_of a) v r (state_of t rs s)
+pub joined : {t rs rs' : List ℕ} {e : limits.Env} {a : work.Assignment} {v : ℕ} {b : Bool} {r : ℕ} {s j : Counts}
+    → Mergeable t rs e a v b r s
+    → state_of t rs' j ≡ join (env_of e) (assignment_of a) v r (state_of t rs s)
+    → length rs' ≡ length rs
+    → Joined t rs' e a v s.clauses j
+joined {t} {rs} {rs'} {e} {a} {v} {b} {r} {s} {j} m is same =
+    let x = state_of t rs s in
+    let clauses : j.clauses ≡ s.clauses =
+    as_many t j.clauses s.clauses (ap (λ (y : State). y.table) is ∙ join_table (env_of e) (assignment_of a) v r x) in
+    let records : j.records < e.vars =
+    subst
+    (λ (k : ℕ). k < e.vars)
+    (sym (ap (λ (y : State). length y.records) is) ∙ sequents_length rs' j.records)
+    (join_few (env_of e) (assignment_of a) v b r x m.branched m.trues m.first m.second) in
+    record {
+      allowed = omega (arith, clauses, m.clauses);
+      table = omega (arith, clauses, m.clauses, m.capacity);
+      room = omega (arith, records, m.room, same);
+      second = λ {q} {b = c} {k}. subst⁻¹ (λ (n : ℕ). Tallied t q n c k) clauses;
+      shape = subst⁻¹ (Shape (env_of e) (assignment_of a)) is (shape_join (env_of e) (assignment_of a) v b r x m.second m.trues m.first);
+      others = ap redundant is ∙ join_redundant (env_of e) (assignment_of a) v r x;
+    }
 
 -- ---- the test
 
@@ -244,8 +259,9 @@ module _ (e : Env) (a : Assignment) (v : ℕ) (j : State) where
       true_falsified a (resolvent v c d) (resolvent_falsified a v true c d first.1 second.1)
 
 -- step 7 is the test on the joined state, and what comes of it
-pub merged : (e : Env) (a : Assignment) (v : ℕ) (b : Bool) (r : ℕ) (s j : State)
+pub merged : (e : Env) (a : Assignment) (v : ℕ) (b : Bool) (r : ℕ) (s j : State) (o : Side)
     → j ≡ join e a v r s
-    → merge_on e a v b j (monotone a j v) ≡ merge e a v b r s
+    → o ≡ merge_on e a v b j (monotone a j v)
+    → o ≡ merge e a v b r s
 unfolding merge
-merged e a v b r s j is = ap (λ (x : State). merge_on e a v b x (monotone a x v)) is
+merged e a v b r s j o is tested = tested ∙ ap (λ (x : State). merge_on e a v b x (monotone a x v)) is

@@ -14,7 +14,6 @@ ghost use Rattle.merge.specs.Needs.{Joinable, Learning, Testing, Mergeable, Merg
 use rows::clause::{Assignment, Clause};
 use rows::records::DSequent;
 use rows::state::{Counts, Env};
-use rows::table::Lookup;
 use rows::{clause, records, state, table, tallies};
 use sweep::Literal;
 
@@ -27,7 +26,8 @@ pub enum Ending {
     OutOfClauses,
 }
 
-// Back up, or the end of the run with the decisions at which it was reached.
+// Back up, or the end of the run with the decisions at which it was reached. It is no Result: the branching step takes each side's outcome apart by
+// let..else, as the scope asks.
 #[derive(Clone, Copy)]
 pub enum Side {
     Up(Counts),
@@ -44,11 +44,7 @@ fn join(rs: &mut [u64], e: Env, a: Assignment, v: u64, r: u64, s: Counts) -> Cou
     let k = records::without(rs, s.records, v);
     let d = records::last(rs, k);
     let rest = words::minus(state::undecided(e, a), v);
-    let kept = Counts {
-        clauses: s.clauses,
-        records: k,
-        branchings: s.branchings,
-    };
+    let kept = Counts { records: k, ..s };
     if d.redundant == rest {
         return kept;
     }
@@ -82,8 +78,7 @@ fn learn(
     ensures { (side_of t.new rs.new result ≡ Learn (env_of e) (assignment_of a) (state_of t.old rs.old s) (clause_of c) (cover (clause_of c) (clauses t.old s.clauses))) × TalliedSide t.new q.new rs.new a result }
 {
     let m = s.clauses;
-    let found = table::cover(t, q, m, c);
-    if let Lookup::Found(known) = found {
+    if let Some(known) = table::cover(t, q, m, c) {
         return settle(q, rs, e, a, known, s);
     }
     if e.capacity <= m {
@@ -92,8 +87,7 @@ fn learn(
     tallies::add(t, q, m, a, d.redundant, c);
     let more = Counts {
         clauses: m + 1,
-        records: s.records,
-        branchings: s.branchings,
+        ..s
     };
     settle(q, rs, e, a, c, more)
 }
@@ -114,16 +108,14 @@ fn test(
 {
     let m = s.clauses;
     let d = records::last(rs, s.records);
-    let negative = table::in_play(t, q, m, v, false);
-    let Lookup::Found(n) = negative else {
+    let Some(n) = table::in_play(t, q, m, v, false) else {
         let l = Literal {
             var: v,
             sign: false,
         };
         return Side::Up(sweep::strike_by(t, q, rs, l, a, d, s));
     };
-    let positive = table::in_play(t, q, m, v, true);
-    let Lookup::Found(p) = positive else {
+    let Some(p) = table::in_play(t, q, m, v, true) else {
         let l = Literal { var: v, sign: true };
         return Side::Up(sweep::strike_by(t, q, rs, l, a, d, s));
     };

@@ -7,9 +7,8 @@ use Rattle.steps.specs.Marked.{clause}
 use Rattle.order.specs.Order.{Order}
 use Rattle.order.specs.Demands.{order}
 use Rattle.book.specs.Bytes.{encode}
-use Rattle.answer.specs.Answer.{tally_in}
+use Rattle.answer.specs.Answer.{tally_in, Answer.Can, Answer.Cannot, Answer.Refused}
 use Rattle.answer.specs.Packed.{packed, unpacked}
-use Rattle.answer.specs.declared.Answer.TheVariants.{Can, Cannot, Refused}
 use Rattle.contract.specs.Filled.{Tables, lent, lengths, Checked}
 use Rattle.contract.specs.Asked.{Demanded, RefusedFirst}
 use Rattle.contract.specs.Demands.{Permitted, first_places}

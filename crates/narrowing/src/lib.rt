@@ -15,15 +15,13 @@ pub fn narrow(t: &[u64], clauses: usize, left: u64, fitted: u64, u: &mut [u64]) 
     requires { (clause_words clauses ≤ length t.now) × (clause_words clauses ≤ length u.old) }
     ensures { Narrowed left fitted (Clauses t.now clauses) (Clauses u.new result) }
 {
-    let mut i = 0;
     let mut count = 0;
-    while i < clauses {
+    for i in 0..clauses {
         let c = table::clause_at(t, i);
         if !is_kept(c, left, fitted) {
             table::put(u, count, c);
             count += 1;
         }
-        i += 1;
     }
     count
 }

@@ -6,8 +6,8 @@ use std::io;
 
 fn main(rt: HostRuntime) -> io::Result<()> {
     let mut input = reply::input_buffer();
-    let mut text = reply::reply_buffer();
     let n = console::read_full(&mut rt.reader(), &mut input)?;
-    let size = reply::respond(&input[..n], &mut text);
-    rt.write_all(&text[..size])
+    console::print_filled(&rt, &mut reply::reply_buffer(), |out| {
+        reply::respond(&input[..n], out)
+    })
 }

@@ -1,23 +1,25 @@
 // The check, the page, the morning, open options, the terminal, the desk, joined books, turns and the cheapest plant for C and Rust: exported functions on numbers and slices (rust/optcheck/include/optcheck.h is their header).
+// Slices and words stand one by one, as C lends them.
 #![tactic(auto)]
 
+ghost use Rattle.std.specs.Prelude.{◌≡◌};
 ghost use Rattle.contract.specs.Filled.{lent};
 ghost use Rattle.page.specs.Filed.{Filed};
 ghost use Rattle.morning.specs.Morning.{Serves};
 ghost use Rattle.undecided.specs.Told.{Told};
 ghost use Rattle.sites.specs.Handed.{terminal_of, HandsOpening, HandsSite};
 ghost use Rattle.drafts.specs.Desk.{Makes, Alters, Call.set, Call.clear, Call.keep, Call.return};
+ghost use Rattle.drafts.specs.Values.{answered};
 ghost use Rattle.joint.specs.Handed.{Hands};
 ghost use Rattle.turns.specs.Handed.{places, Hands as HandsTurns};
 ghost use Rattle.cheapest.specs.Handed.{places as places_of, Hands as HandsCheapest};
 ghost use Rattle.optcheck_c.specs.Exported.{Exported};
 
-use cheapest::Cheapest;
+use answer::Refusal;
+use checker::Tables;
 use drafts::Desk;
-use joint::Joined;
 use order::Order;
-use sites::{Opening, Terminal};
-use turns::Turns;
+use sites::Terminal;
 
 // Checks the book and the order, fills the lent tables and returns the answer as one word (crate `answer`, `packed`).
 #[unsafe(no_mangle)]
@@ -40,7 +42,14 @@ pub extern "C" fn optcheck_check(
         unwanted,
         standard,
     };
-    let found = checker::check(book, order, allowance, pos, neg, decided, trues, redundant);
+    let mut tables = Tables {
+        pos,
+        neg,
+        decided,
+        trues,
+        redundant,
+    };
+    let found = checker::check(book, order, allowance, &mut tables);
     answer::word_of(found)
 }
 
@@ -62,7 +71,7 @@ pub extern "C" fn optcheck_page(
         unwanted,
         standard,
     };
-    filing::file(book, order, allowance, page)
+    filing::file(book, order, allowance, page).unwrap_or(0)
 }
 
 // Serves a morning's orders (crate `serving`): 0, or 13 where nothing is changed.
@@ -80,9 +89,14 @@ pub extern "C" fn optcheck_morning(
 ) -> u32
     ensures { Serves book.now orders.now allowance answers.old (lent pos.old neg.old decided.old trues.old redundant.old) result answers.new (lent pos.new neg.new decided.new trues.new redundant.new) }
 {
-    serving::morning(
-        book, orders, allowance, answers, pos, neg, decided, trues, redundant,
-    )
+    let mut tables = Tables {
+        pos,
+        neg,
+        decided,
+        trues,
+        redundant,
+    };
+    answer_of(serving::morning(book, orders, allowance, answers, &mut tables))
 }
 
 // Tries the settings of the options in `opens` (crate `telling`): the word of the last setting's answer, or that of a refusal, which changes nothing.
@@ -109,9 +123,14 @@ pub extern "C" fn optcheck_undecided(
         unwanted,
         standard,
     };
-    telling::undecided(
-        book, order, opens, allowance, verdict, setting, pos, neg, decided, trues, redundant,
-    )
+    let mut tables = Tables {
+        pos,
+        neg,
+        decided,
+        trues,
+        redundant,
+    };
+    telling::undecided(book, order, opens, allowance, verdict, setting, &mut tables)
 }
 
 // Opens a terminal for so many sites and one allowance (crate `terminal`): 0, and it stands in `left`, `part` and `sites`; or 21, and nothing is changed.
@@ -126,8 +145,8 @@ pub extern "C" fn optcheck_terminal(
     ensures { HandsOpening count allowance (terminal_of left.old part.old sites.old) result (terminal_of left.new part.new sites.new) }
 {
     match terminal::open_for(count, allowance) {
-        Opening::Refused(k) => k,
-        Opening::Opened(t) => {
+        Err(refusal) => u32::from(refusal),
+        Ok(t) => {
             *left = t.left;
             *part = t.part;
             *sites = t.sites;
@@ -164,12 +183,27 @@ pub extern "C" fn optcheck_site(
         part,
         sites: *sites,
     };
-    let served = terminal::serve(before, book, order, pos, neg, decided, trues, redundant);
-    let told = served.answer;
-    let next = served.terminal;
-    *left = next.left;
-    *sites = next.sites;
-    answer::word_of(told)
+    let mut tables = Tables {
+        pos,
+        neg,
+        decided,
+        trues,
+        redundant,
+    };
+    let served = terminal::serve(before, book, order, &mut tables);
+    *left = served.terminal.left;
+    *sites = served.terminal.sites;
+    answer::word_of(served.answer)
+}
+
+// 0, or the number of the refusal.
+fn answer_of(done: Result<(), Refusal>) -> u32
+    ensures { result ≡ answered done }
+{
+    match done {
+        Ok(()) => 0,
+        Err(refusal) => u32::from(refusal),
+    }
 }
 
 // Makes a fresh desk for so many options (crate `desk`): 0; or 2, and it is the fresh desk for none. All of `desk` is written.
@@ -177,9 +211,9 @@ pub extern "C" fn optcheck_site(
 pub extern "C" fn optcheck_desk_fresh(options: u32, desk: &mut Desk) -> u32
     ensures { Makes options result desk.new }
 {
-    let done = desk::fresh(options);
-    *desk = done.desk;
-    done.answer
+    let (fresh, done) = desk::fresh(options);
+    *desk = fresh;
+    answer_of(done)
 }
 
 // Sets a wish for an option: it is to be fitted, or to be left out. 0, or 7, and nothing is changed.
@@ -187,7 +221,7 @@ pub extern "C" fn optcheck_desk_fresh(options: u32, desk: &mut Desk) -> u32
 pub extern "C" fn optcheck_desk_set(desk: &mut Desk, option: u32, fitted: bool) -> u32
     ensures { Alters desk.old (set option fitted) result desk.new }
 {
-    desk::set(desk, option, fitted)
+    answer_of(desk::set(desk, option, fitted))
 }
 
 // Clears the wish for an option: 0, or 7, and nothing is changed.
@@ -195,7 +229,7 @@ pub extern "C" fn optcheck_desk_set(desk: &mut Desk, option: u32, fitted: bool) 
 pub extern "C" fn optcheck_desk_clear(desk: &mut Desk, option: u32) -> u32
     ensures { Alters desk.old (clear option) result desk.new }
 {
-    desk::clear(desk, option)
+    answer_of(desk::clear(desk, option))
 }
 
 // Keeps the order as a draft: 0, or 14, and nothing is changed.
@@ -203,7 +237,7 @@ pub extern "C" fn optcheck_desk_clear(desk: &mut Desk, option: u32) -> u32
 pub extern "C" fn optcheck_desk_keep(desk: &mut Desk, draft: u32) -> u32
     ensures { Alters desk.old (keep draft) result desk.new }
 {
-    desk::keep(desk, draft)
+    answer_of(desk::keep(desk, draft))
 }
 
 // Returns to a draft: 0, or 14 or 15, and nothing is changed.
@@ -211,7 +245,7 @@ pub extern "C" fn optcheck_desk_keep(desk: &mut Desk, draft: u32) -> u32
 pub extern "C" fn optcheck_desk_return(desk: &mut Desk, draft: u32) -> u32
     ensures { Alters desk.old (return draft) result desk.new }
 {
-    desk::return_to(desk, draft)
+    answer_of(desk::return_to(desk, draft))
 }
 
 // Joins two books (crate `joining`): 0, and the joint book's bytes stand at the beginning of `book` and their number in `length`; or the number of a refusal, and nothing
@@ -227,11 +261,11 @@ pub extern "C" fn optcheck_join(
     ensures { Hands first.now second.now pairs.now book.old length.old result book.new length.new }
 {
     match joining::join(first, second, pairs, book) {
-        Joined::Refused(k) => k,
-        Joined::Written(size) => {
+        Ok(size) => {
             *length = size;
             0
         }
+        Err(refusal) => u32::from(refusal),
     }
 }
 
@@ -255,23 +289,13 @@ pub extern "C" fn optcheck_turns(
         standard,
     };
     match playing::turns(book, order) {
-        Turns::Refused(k) => k,
-        Turns::Forced(r) => {
-            *forced = 1;
-            let to_out = r.out;
-            let to_fitted = r.fitted;
-            *out = playing::number_of(to_out);
-            *fitted = playing::number_of(to_fitted);
+        Ok(outcome) => {
+            *forced = u32::from(outcome.forced);
+            *out = outcome.responses.out.map_or(0, u32::from);
+            *fitted = outcome.responses.fitted.map_or(0, u32::from);
             0
         }
-        Turns::Open(r) => {
-            *forced = 0;
-            let to_out = r.out;
-            let to_fitted = r.fitted;
-            *out = playing::number_of(to_out);
-            *fitted = playing::number_of(to_fitted);
-            0
-        }
+        Err(refusal) => u32::from(refusal),
     }
 }
 
@@ -298,15 +322,15 @@ pub extern "C" fn optcheck_cheapest(
         standard,
     };
     match pricing::cheapest(book, order, prices, rebate) {
-        Cheapest::Refused(k) => k,
-        Cheapest::Cannot => {
+        Err(refusal) => u32::from(refusal),
+        Ok(None) => {
             *can = 0;
             *total = 0;
             *due = 0;
             *choice = 0;
             0
         }
-        Cheapest::Can(q) => {
+        Ok(Some(q)) => {
             *can = 1;
             *total = q.total;
             *due = q.due;

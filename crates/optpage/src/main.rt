@@ -6,8 +6,8 @@ use std::io;
 
 fn main(rt: HostRuntime) -> io::Result<()> {
     let mut input = reply::input_buffer();
-    let mut page = filing::page_buffer();
     let n = console::read_full(&mut rt.reader(), &mut input)?;
-    let size = filing::respond(&input[..n], &mut page);
-    rt.write_all(&page[..size])
+    console::print_filled(&rt, &mut filing::page_buffer(), |out| {
+        filing::respond(&input[..n], out)
+    })
 }

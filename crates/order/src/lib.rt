@@ -22,6 +22,7 @@ pub struct Assumptions {
 
 impl Order {
     // The order with each standard option that is not unwanted taken as wanted.
+    #[tactic(auto, unfolding(crate::specs::Order::complete))]
     pub fn complete(self) -> Assumptions
         ensures { assumptions_of result ≡ Complete (order_of self) }
     {
@@ -32,6 +33,7 @@ impl Order {
     }
 
     // The free options among the first `vars`. Public for the crates that settle them, whose books have no more than 64 options.
+    #[tactic(auto, unfolding(crate::specs::Order::free))]
     pub fn free(self, vars: u32) -> u64
         requires { vars ≤ 64 }
         ensures { result ≡ Free vars (order_of self) }

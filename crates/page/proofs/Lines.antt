@@ -10,8 +10,7 @@ use lib.ListN.{length, get_or, take, drop, length-append, get_or-append}
 use lib.Seq.{take_at, take-take, take-add, drop_at, get_or_at, get_or-append-add, length-take-le}
 use Rattle.steps.specs.Clause.{Clause}
 use Rattle.steps.specs.Shape.{Proper}
-use Rattle.answer.specs.Answer.{tally_in, number_in}
-use Rattle.answer.specs.declared.Answer.{Answer}
+use Rattle.answer.specs.Answer.{tally_in, number_in, Answer}
 use Rattle.book.specs.Limits.{max_vars}
 use Rattle.report.specs.Ascii.{ascii}
 use Rattle.report.specs.Decimal.{decimal}

@@ -8,8 +8,7 @@ use borrow.Author.Tests.{ltb-true, lt-ltb}
 use lib.Dec.{ltb}
 use lib.ListN.{length, get_or}
 use Rattle.words.proofs.Truth.{and_left, and_right, and_both}
-use Rattle.answer.specs.declared.Answer.{Answer}
-use Rattle.answer.specs.declared.Answer.TheVariants.{Can, Cannot, Refused, Stopped}
+use Rattle.answer.specs.Answer.{Answer, Answer.Can, Answer.Cannot, Answer.Refused, Answer.Stopped}
 use Rattle.report.specs.Ascii.{ascii}
 use Rattle.report.specs.Decimal.{decimal}
 use Rattle.report.specs.Fields.{blanks, set_left, set_right}

@@ -13,7 +13,7 @@ use lib.Seq.{ext_get_or, get_or-take, get_or-drop}
 use Rattle.words.specs.Demands.{Ascending}
 use Rattle.steps.specs.Clause.{Clause}
 use Rattle.contract.specs.Check.{Result}
-use Rattle.answer.specs.declared.Answer.{Answer}
+use Rattle.answer.specs.Answer.{Answer}
 use Rattle.report.specs.Ascii.{ascii}
 use Rattle.report.specs.Decimal.{decimal}
 use Rattle.report.specs.Text.{word_text}

@@ -7,8 +7,7 @@ use Rattle.words.specs.Demands.{Ascending}
 use Rattle.steps.specs.Clause.{Clause}
 use Rattle.order.specs.Order.{Order}
 use Rattle.book.specs.Bytes.{flat}
-use Rattle.answer.specs.Answer.{tally_in, number_in}
-use Rattle.answer.specs.declared.Answer.{Answer}
+use Rattle.answer.specs.Answer.{tally_in, number_in, Answer}
 use Rattle.contract.specs.Check.{Result, Result.refused, Result.ran, check}
 use Rattle.contract.specs.Filled.{answer_of}
 use Rattle.report.specs.Ascii.{ascii}

@@ -2,9 +2,7 @@
 -- Each line has 40 characters and a line feed, which is a demand and not seen here: a text or a number that is longer than its field would push the others on.
 use Rattle.std.specs.Prelude.{List, [], ◌∷◌, ◌++◌, ℕ, suc, ◌+◌, ◌*◌}
 use Rattle.steps.specs.Clause.{Clause}
-use Rattle.answer.specs.Answer.{of_outcome, tally_in, number_in}
-use Rattle.answer.specs.declared.Answer.{Answer}
-use Rattle.answer.specs.declared.Answer.TheVariants.{Refused}
+use Rattle.answer.specs.Answer.{of_outcome, tally_in, number_in, Answer, Answer.Refused}
 use Rattle.book.specs.Limits.{max_derived}
 use Rattle.contract.specs.Check.{Result, Result.refused, Result.ran}
 use Rattle.report.specs.Ascii.{ascii}

@@ -15,7 +15,6 @@ use Rattle.steps.specs.Run.{Assumptions}
 use Rattle.steps.specs.Meaning.{satisfies, models, obeys}
 use Rattle.rows.specs.Rows.{from, clause_at, clauses}
 use Rattle.rows.proofs.Lists.{from_step, from_end}
-use Rattle.turns.specs.Turns.{wins}
 
 -- ---- the wishes
 
@@ -73,15 +72,3 @@ module _ (x : ℕ) (t : List ℕ) (m i : ℕ) (few : i < m) (inv : Kept x t m i)
   -- the i-th is kept
   pub kept_next : broken ≡ false → Kept x t m (i + 1)
   kept_next b = here ∙ ap (λ s. s && rest) (not-false (satisfies x c) (sym e ∙ b))
-
--- ---- both
-
--- a wish is not kept
-pub wish_broken : (cs : List Clause) (a : Assumptions) (x : ℕ) → obeys x a ≡ false → false ≡ wins cs a x
-unfolding wins
-wish_broken cs a x e = sym (ap (λ b. b && models x cs) e)
-
--- all are, and it goes by the clauses
-pub wishes_then_rules : (cs : List Clause) (a : Assumptions) (x : ℕ) → obeys x a ≡ true → (r : Bool) → r ≡ models x cs → r ≡ wins cs a x
-unfolding wins
-wishes_then_rules cs a x e r er = er ∙ sym (ap (λ b. b && models x cs) e)

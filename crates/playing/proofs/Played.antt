@@ -1,4 +1,6 @@
 -- A book that was admitted with its order, played: what is answered is 16, or what the turns come to.
+use Rattle.std.proofs.Common.{Option, Some, None}
+use Rattle.std.specs.Option.{is_some}
 use mathlib.Core.Path.{◌≡◌, refl, sym, ap, ap₂, ◌∙◌}
 use mathlib.Core.Bool.{Bool, true, false, ◌&&◌}
 use mathlib.Core.List.{List, [], ◌∷◌}
@@ -19,11 +21,12 @@ use Rattle.book.specs.declared.Book.{Book}
 use Rattle.book.proofs.Refusals.{first_none, first_here, first_later, first_among, first_after}
 use Rattle.book.proofs.Accepted.{admitted_book, admitted_row}
 use Rattle.book.proofs.UnitClauses.{length_members}
-use Rattle.turns.specs.Turns.{max_free, free_rows, Player.buyer, wins, forces, given, responses, told, played, answered_by, turns, Answers}
-use Rattle.turns.specs.declared.Responses.{Responses}
-use Rattle.turns.specs.declared.Turns.{Turns}
-use Rattle.turns.specs.declared.Turns.TheVariants.{Forced, Open, Refused}
+use Rattle.turns.specs.Turns.{Responses, Turns, Turns.Refused, max_free, free_rows, Player.buyer, wins, forces, given, responses, told, played, answered_by, turns, Answers}
+use Rattle.turns.specs.Values.{response_of}
+use Rattle.turns.specs.declared.Response as declared
+use Rattle.turns.specs.declared.Response.TheVariants as code
 use Rattle.turns.proofs.Turning.{both_given}
+use Rattle.playing.specs.declared.turn.Turn.{Turn}
 use Rattle.playing.specs.Promises.{PlaysBook, Tells, Forced as IsForced}
 
 -- ---- 16, and else the turns
@@ -38,7 +41,9 @@ module _ (n : ℕ) (cs : List Clause) (o : Order) (left count : ℕ) (el : left 
   too_many h = record { answer = sym (ap (answered_by n cs o) (first_here (row 16 (ltb max_free (ones (free n o)))) [] (sym counted ∙ lt-ltb max_free count h))) }
 
   -- no more than that
-  pub few_enough : count ≤ 12 → (won : ℕ → Bool) → won ≡ wins cs (complete o) → (x : ℕ) → x ≡ (complete o).pos → (r : Turns) → Tells won left x r → PlaysBook n cs o r
+  pub few_enough :
+      count ≤ 12 → (won : ℕ → Bool) → won ≡ wins cs (complete o) → (x : ℕ) → x ≡ (complete o).pos → (r : Turns) →
+      Tells won (record { left = left; fitted = x }) r → PlaysBook n cs o r
   unfolding free_rows played
   few_enough h won ew x ex r t =
       record {
@@ -53,27 +58,28 @@ module _ (n : ℕ) (cs : List Clause) (o : Order) (left count : ℕ) (el : left 
 
 -- ---- forced or open
 
-pub tells_forced : (won : ℕ → Bool) (left x : ℕ) (a : Responses) (r : Bool) → a ≡ responses won (members left) x → IsForced won left x r → r ≡ true → Tells won left x (Forced a)
-tells_forced won left x a r ea f e = record { answer = sym (ap₂ told (sym f.forced ∙ e) (sym ea)) }
-
-pub tells_open : (won : ℕ → Bool) (left x : ℕ) (a : Responses) (r : Bool) → a ≡ responses won (members left) x → IsForced won left x r → r ≡ false → Tells won left x (Open a)
-tells_open won left x a r ea f e = record { answer = sym (ap₂ told (sym f.forced ∙ e) (sym ea)) }
-
 -- with two options or more it goes by the answers
-module _ (won : ℕ → Bool) (left x count : ℕ) (a : Responses) (ec : count ≡ ones left) (two : 2 ≤ count) (ea : a ≡ responses won (members left) x) where
-  by_answers : forces won buyer (members left) x ≡ (given a.out && given a.fitted)
-  by_answers = go (members left) (omega (arith, length_members (ones left) left refl, ec, two)) ∙ ap (λ r. given r.out && given r.fitted) (sym ea)
+module _ (won : ℕ → Bool) (t : Turn) (count : ℕ) (a : Responses) (ec : count ≡ ones t.left) (two : 2 ≤ count) (ea : a ≡ responses won (members t.left) t.fitted) where
+  by_answers : forces won buyer (members t.left) t.fitted ≡ (given a.out && given a.fitted)
+  by_answers =
+      go (members t.left) (omega (arith, length_members (ones t.left) t.left refl, ec, two)) ∙ ap (λ r. given r.out && given r.fitted) (sym ea)
     where
-      go : (vs : List ℕ) → 2 ≤ length vs → forces won buyer vs x ≡ (given (responses won vs x).out && given (responses won vs x).fitted)
+      go : (vs : List ℕ) → 2 ≤ length vs → forces won buyer vs t.fitted ≡ (given (responses won vs t.fitted).out && given (responses won vs t.fitted).fitted)
       go [] h = absurd (omega arith)
       go (v ∷ []) h = absurd (omega arith)
-      go (v ∷ u ∷ vs) h = both_given won v u vs x
+      go (v ∷ u ∷ vs) h = both_given won v u vs t.fitted
 
-  pub one_missing : (p : Bool) → p ≡ given a.out → p ≡ false → IsForced won left x false
-  one_missing p ep e = record { forced = sym (by_answers ∙ ap (λ b. b && given a.fitted) (sym ep ∙ e)) }
+  pub one_missing : (p : Bool) → p ≡ given a.out → p ≡ false → IsForced won t p
+  one_missing p ep e = record { forced = e ∙ sym (by_answers ∙ ap (λ b. b && given a.fitted) (sym ep ∙ e)) }
 
-  pub one_given : (p : Bool) → p ≡ given a.out → p ≡ true → (q : Bool) → q ≡ given a.fitted → IsForced won left x q
+  pub one_given : (p : Bool) → p ≡ given a.out → p ≡ true → (q : Bool) → q ≡ given a.fitted → IsForced won t q
   one_given p ep e q eq = record { forced = eq ∙ sym (by_answers ∙ ap (λ b. b && given a.fitted) (sym ep ∙ e)) }
+
+-- there is an answer
+pub is_given : (o : Option declared.Response) → is_some o ≡ given (response_of o)
+is_given None = refl
+is_given (Some code.Out) = refl
+is_given (Some code.Fitted) = refl
 
 -- ---- the book
 

@@ -1,67 +1,47 @@
-// The turns. A choice that does not serve ends its branch at once.
-ghost use Rattle.std.specs.Prelude.{◌≡◌, not, ◌≤◌, length};
+// The turns. A choice that does not serve ends its branch at once. The buyer's turn and the planner's are two functions that call each other, as the scope names the form.
+ghost use Rattle.std.specs.Prelude.{◌≡◌, not};
 ghost use Rattle.words.specs.Words.{members};
 ghost use Rattle.steps.specs.Meaning.{satisfies, models, obeys};
 ghost use Rattle.order.specs.Values.{assumptions_of};
-ghost use Rattle.rows.specs.Rows.{clause_words, clauses as Clauses};
+ghost use Rattle.rows.specs.Rows.{clauses as Clauses};
 ghost use Rattle.rows.specs.Values.{clause_of};
 ghost use Rattle.turns.specs.Turns.{forces, Player.buyer as Buyer, Player.planner as Planner};
 ghost use Rattle.playing.specs.Promises.{wins_in};
 
+use crate::given::Given;
+use crate::turn::Turn;
 use order::Assumptions;
 use rows::clause::Clause;
 use rows::table;
 
-// What a choice has to keep: so many clauses of the work table, and the completed order.
-#[derive(Clone, Copy)]
-pub struct Given {
-    pub clauses: usize,
-    pub order: Assumptions,
-}
-
-// Whether the planner can force it where the buyer settles the first of the options that are left: he can after both choices of the buyer's.
+// Whether the planner can force it where the buyer settles the next option: he can after both choices of the buyer's.
 #[cycle(buyer_planner)]
-pub fn buyer(t: &[u64], g: Given, free: u64, fitted: u64) -> bool
-    requires { clause_words g.clauses ≤ length t.now }
-    ensures { result ≡ forces (wins_in t.now g) Buyer (members free) fitted }
+pub fn buyer(g: Given, t: Turn) -> bool
+    ensures { result ≡ forces (wins_in g.entry) Buyer (members t.left) t.fitted }
 {
-    if free == 0 {
-        return wins(t, g, fitted);
+    if t.left == 0 {
+        return wins(g, t.fitted);
     }
-    let option = words::lowest_of(free);
-    let rest = words::rest_of(free);
-    if planner(t, g, rest, fitted) {
-        return planner(t, g, rest, fitted | option);
-    }
-    false
+    planner(g, t.leave_out()) && planner(g, t.fit())
 }
 
 // The same where the planner settles it: he can after one of his two choices.
 #[cycle(buyer_planner)]
-fn planner(t: &[u64], g: Given, free: u64, fitted: u64) -> bool
-    requires { clause_words g.clauses ≤ length t.now }
-    ensures { result ≡ forces (wins_in t.now g) Planner (members free) fitted }
+fn planner(g: Given, t: Turn) -> bool
+    ensures { result ≡ forces (wins_in g.entry) Planner (members t.left) t.fitted }
 {
-    if free == 0 {
-        return wins(t, g, fitted);
+    if t.left == 0 {
+        return wins(g, t.fitted);
     }
-    let option = words::lowest_of(free);
-    let rest = words::rest_of(free);
-    if buyer(t, g, rest, fitted) {
-        return true;
-    }
-    buyer(t, g, rest, fitted | option)
+    buyer(g, t.leave_out()) || buyer(g, t.fit())
 }
 
 // Whether the choice keeps every wish and every rule.
-fn wins(t: &[u64], g: Given, x: u64) -> bool
-    requires { clause_words g.clauses ≤ length t.now }
-    ensures { result ≡ wins_in t.now g x }
+#[tactic(auto, unfolding(turns::specs::Turns::wins))]
+fn wins(g: Given, x: u64) -> bool
+    ensures { result ≡ wins_in g.entry x }
 {
-    if keeps_wishes(g.order, x) {
-        return keeps_rules(t, g.clauses, x);
-    }
-    false
+    keeps_wishes(g.order, x) && keeps_rules(g, x)
 }
 
 // Whether the choice keeps every wish.
@@ -74,18 +54,14 @@ fn keeps_wishes(o: Assumptions, x: u64) -> bool
     words::minus(o.pos, x) == 0
 }
 
-// Whether the choice keeps the first clauses of the table.
-fn keeps_rules(t: &[u64], clauses: usize, x: u64) -> bool
-    requires { clause_words clauses ≤ length t.now }
-    ensures { result ≡ models x (Clauses t.now clauses) }
+// Whether the choice keeps every rule.
+fn keeps_rules(g: Given, x: u64) -> bool
+    ensures { result ≡ models x (Clauses g.entry.table.now g.entry.clauses) }
 {
-    let mut i: usize = 0;
-    while i < clauses {
-        let c = table::clause_at(t, i);
-        if breaks(c, x) {
+    for i in 0..g.clauses {
+        if breaks(table::clause_at(g.table, i), x) {
             return false;
         }
-        i += 1;
     }
     true
 }

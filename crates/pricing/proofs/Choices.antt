@@ -8,9 +8,9 @@ use Prim.Native.Nat.{ℕ, ◌^◌, ◌≤◌, ◌<◌}
 use native.Mathlib.Omega.{arith}
 use borrow.Author.Tests.{not-true}
 use lib.Bits.{bit_or}
-use lib.ListN.{length}
+use lib.ListN.{length, get_or}
 use Rattle.words.specs.Words.{is_zero, has, minus, meets, first_vars, Within}
-use Rattle.words.proofs.Truth.{both_ways, refuted, and_left, and_right, and_both}
+use Rattle.words.proofs.Truth.{clash, both_ways, refuted, and_left, and_right, and_both}
 use Rattle.words.proofs.Sets.{within_lt, lt_within, within_trans, or_within, or_within_l, or_within_r, in_or, in_minus, minus_within, minus_out, minus_empty, within_minus, meets_false, meets_false_intro}
 use Rattle.steps.specs.Clause.{Clause}
 use Rattle.steps.specs.Run.{Assumptions}
@@ -23,9 +23,11 @@ use Rattle.narrowing.proofs.Opens.{opens_decide}
 use Rattle.cheapest.specs.Cheapest.{list_total, keeps}
 use Rattle.cheapest.specs.Meaning.{Before}
 use Rattle.cheapest.proofs.Least.{is_least, is_none}
-use Rattle.cheapest.proofs.Totals.{total_bound}
+use Rattle.cheapest.proofs.Totals.{total_bound, total_same}
 use Rattle.blocks.specs.Blocks.{Priced}
-use Rattle.pricing.specs.Promises.{beyond, Improved, Fits, Opened, Searched, Found}
+use Rattle.std.specs.Prelude.{Option, Some, None}
+use Rattle.pricing.specs.Promises.{PlanOf, Leads, Improved, Fits, Opened, Searched, Found}
+use Rattle.pricing.proofs.Plans.{same_costs}
 use Rattle.pricing.specs.declared.plan.Plan.{Plan}
 
 module _ (n : ℕ) (o : Order) (fits : Fits n o) where
@@ -82,8 +84,8 @@ module _ (n : ℕ) (o : Order) (fits : Fits n o) where
           (λ q. both_ways (has x k) h (unwanted q))
           (in_or a.pos a.neg k e)
 
-  module _ (cs opens : List Clause) (prices : List ℕ) (priced : Priced n prices) (narrowed : Narrowed (free n o) a.pos cs opens) (p : Plan)
-      (improved : Improved (λ y. models y opens) (list_total prices n) (Between (free n o) a.pos) (record { total = beyond; choice = 0 }) p) where
+  module _ (cs opens : List Clause) (prices : List ℕ) (priced : Priced n prices) (narrowed : Narrowed (free n o) a.pos cs opens) (r : Option Plan)
+      (improved : Improved (λ y. models y opens) (list_total prices n) (Between (free n o) a.pos) None r) where
     abbrev cost : ℕ → ℕ
     cost = list_total prices n
 
@@ -92,45 +94,49 @@ module _ (n : ℕ) (o : Order) (fits : Fits n o) where
     opens_same y b = ap (models y) narrowed.are ∙ opens_decide (free n o) a.pos cs y b
 
     -- a choice that keeps all comes after the best plan
-    comes_after : (y : ℕ) → y < 2 ^ n → keeps cs a y ≡ true → Before p.total p.choice (cost y) y
+    comes_after : (q : Option Plan) → r ≡ q → (y : ℕ) → y < 2 ^ n → keeps cs a y ≡ true → Leads q (cost y) y
     unfolding keeps
-    comes_after y few k =
+    comes_after q e y few k =
         let b = obeys_between y few (and_left (obeys y a) (models y cs) k) in
-        improved.first y b (opens_same y b ∙ and_right (obeys y a) (models y cs) k)
+        subst (λ s. Leads s (cost y) y) e (improved.first y b (opens_same y b ∙ and_right (obeys y a) (models y cs) k))
 
-    reach : (y : ℕ) → cost y < beyond
-    reach y = omega (arith, total_bound prices n priced.in_range y, priced.few)
+    -- the best plan is that of a choice that can come
+    is_of : (p : Plan) → r ≡ Some p → PlanOf (λ y. models y opens) cost (Between (free n o) a.pos) p
+    is_of p e = ⊎_elim (λ none. clash (cc (none, e))) (λ h. let same : h.0 ≡ p = cc (h.1, e) in subst (PlanOf (λ y. models y opens) cost (Between (free n o) a.pos)) same h.2) improved.from
 
-    found : Found n cs o prices p
+    found : Found n cs o prices r
     unfolding keeps
     found =
         record {
-          in_reach = ⊎_elim (λ less. omega (arith, less)) (λ same. omega (arith, same.0)) improved.before;
-          none = λ e.
-              is_none (keeps cs a) cost (2 ^ n)
-              (λ y few k. ⊎_elim (λ less. omega (arith, less, e, reach y)) (λ same. omega (arith, same.0, e, reach y)) (comes_after y few k));
-          some = λ some.
-              ⊎_elim
-              (λ e. absurd (some (ap (λ q. q.total) e)))
-              (λ of. (
+          in_reach = λ p e. omega (arith, (is_of p e).total, total_bound prices n priced.in_range p.choice, priced.few);
+          none = λ e. is_none (keeps cs a) cost (2 ^ n) (comes_after None e);
+          some = λ p e.
+              let of = is_of p e in (
                 is_least (keeps cs a) cost (2 ^ n) p.choice
                     (record {
                       below = between_choice p.choice of.among;
                       is_kept_one = and_both (obeys p.choice a) (models p.choice cs) (between_obeys p.choice of.among) (sym (opens_same p.choice of.among) ∙ of.is_kept_one);
-                      first = λ y few k. subst (λ c. Before c p.choice (cost y) y) of.total (comes_after y few k);
+                      first = λ y few k. subst (λ c. Before c p.choice (cost y) y) of.total (comes_after (Some p) e y few k);
                     }),
                 of.total,
-              ))
-              improved.from;
+              );
         }
 
-  -- as the code has them: the free options and what is fitted
-  module _ (left fitted : ℕ) (el : left ≡ free n o) (ef : fitted ≡ a.pos) where
-    pub opened : (u : List ℕ) (r : ℕ) (prices : List ℕ) → r ≤ max_clauses → clause_words r ≤ length u → Priced n prices → Opened u r n prices left fitted
-    opened u r prices few room priced =
-        rw (el, ef)
-        (record { few = few; room = room; priced = priced; options = open_options; apart = λ k h. (free_apart k h).0 })
+  -- as the code has them: the free options and what is fitted, and the prices of the n options alone
+  module _ (left fitted : ℕ) (el : left ≡ free n o) (ef : fitted ≡ a.pos) (prices own : List ℕ) (priced : Priced n prices) (long : length own ≡ n)
+      (same : (k : ℕ) → k < n → get_or own k 0 ≡ get_or prices k 0) where
+    pub opened : (u : List ℕ) (m : ℕ) → m ≤ max_clauses → clause_words m ≤ length u → Opened u m (length own) own left fitted
+    opened u m few room =
+        rw (el, ef, long)
+        (record {
+          few = few;
+          room = room;
+          priced = record { few = priced.few; all = omega (arith, long); in_range = λ k less. rw (same k less) (priced.in_range k less) };
+          options = open_options;
+          apart = λ k h. (free_apart k h).0;
+        })
 
-    pub found_least : (cs : List Clause) (prices u : List ℕ) (r : ℕ) → Priced n prices → Narrowed left fitted cs (clauses u r) → (p : Plan) → Searched u r n prices left fitted p → Found n cs o prices p
-    found_least cs prices u r priced narrowed p s =
-        found cs (clauses u r) prices priced (rw (el, ef) at narrowed) p (rw (el, ef) at s.improved)
+    pub found_least : (cs : List Clause) (u : List ℕ) (m : ℕ) → Narrowed left fitted cs (clauses u m) → (r : Option Plan) → Searched u m (length own) own left fitted r → Found n cs o prices r
+    found_least cs u m narrowed r s =
+        found cs (clauses u m) prices priced (rw (el, ef) at narrowed) r
+        (same_costs (λ y. models y (clauses u m)) (list_total own n) (list_total prices n) (total_same own prices n same) (Between (free n o) a.pos) None r (rw (el, ef, long) at s.improved))

@@ -29,8 +29,7 @@ use Rattle.book.proofs.Conditions.{in_both, order_decides}
 use Rattle.book.proofs.Accepted.{Admitted, none_admitted}
 use Rattle.book.proofs.RoundTrip.{written_holds, written_admitted}
 use Rattle.answer.specs.declared.Tally.{Tally}
-use Rattle.answer.specs.declared.Answer.{Answer}
-use Rattle.answer.specs.declared.Answer.TheVariants.{Can, Cannot, Refused, Stopped}
+use Rattle.answer.specs.Answer.{Answer, Answer.Can, Answer.Cannot, Answer.Refused, Answer.Stopped}
 use Rattle.contract.specs.Check.{Lengths, outcome}
 use Rattle.contract.specs.Filled.{lengths}
 use Rattle.contract.specs.Demands.{answer, IsVerdict}

@@ -14,8 +14,7 @@ use Rattle.order.specs.Demands.{order}
 use Rattle.book.specs.Bytes.{AllBytes, vars_in, rules_in, encode}
 use Rattle.book.specs.Conditions.{NoRow, admit_conditions}
 use Rattle.answer.specs.declared.Tally.{Tally}
-use Rattle.answer.specs.declared.Answer.{Answer}
-use Rattle.answer.specs.declared.Answer.TheVariants.{Can, Cannot}
+use Rattle.answer.specs.Answer.{Answer, Answer.Can, Answer.Cannot}
 use Rattle.contract.specs.Check.{Lengths, Result.ran, check}
 use Rattle.contract.specs.Filled.{Tables, Checked}
 use Rattle.contract.specs.Demands.{answer, check_conditions, IsVerdict, SameOutcome}

@@ -3,18 +3,20 @@
 use mathlib.Core.Path.{◌≡◌, refl, sym, ap, ap₂, ◌∙◌, subst⁻¹}
 use mathlib.Core.List.{List, map}
 use Prim.Native.Nat.{ℕ, ◌-◌, ◌≤◌, ◌<◌}
+use native.Mathlib.Decide.{dec_lt}
 use native.Mathlib.Omega.{arith}
 use borrow.Author.Tests.{lt-ltb, le-ltb}
 use lib.ListN.{length, take, drop, length-append, length-drop, length-map}
 use lib.Seq.{take_all, take_at}
 use Rattle.steps.specs.Clause.{Clause, DSequent}
 use Rattle.order.specs.Order.{Order}
-use Rattle.answer.specs.Answer.{tally_of, of_outcome, tally_in}
+use Rattle.answer.specs.Answer.{tally_of, of_outcome, tally_in, Answer, Answer.Refused}
 use Rattle.answer.specs.declared.Tally.{Tally}
-use Rattle.answer.specs.declared.Answer.{Answer}
 use Rattle.answer.proofs.Ending.{tally_told}
 use Rattle.contract.specs.Check.{Lengths, Result, Result.refused, Result.ran, check}
-use Rattle.contract.specs.Filled.{Tables, lengths, answer_of, written, filled}
+use Rattle.contract.specs.Filled.{Tables, lengths, answer_of, written, filled, Checked}
+use Rattle.contract.proofs.Filling.{ran_spent, ran_records}
+use Rattle.book.specs.Limits.{min_records}
 use Rattle.report.specs.Text.{outcome_text, text_from, Counted}
 use Rattle.reply.specs.Reply.{allowance, order_bytes, order_in, result_in, text_of, Answered}
 
@@ -84,12 +86,52 @@ text_is (ran r) t =
     (words_taken (λ (s : DSequent). s.decisions.trues) r.records t.trues _ records i)
     (words_taken (λ (s : DSequent). s.redundant) r.records t.redundant _ records i)
 
--- what a check of an input left
+-- the counts of a check's answer are few
+few :
+    (bytes : List ℕ) (o : Order) (most : ℕ) (l : Lengths) (x : Result) → check bytes o most l ≡ x
+    → ((tally_in (answer_of x)).derived ≤ l.pos) × ((tally_in (answer_of x)).records ≤ min_records)
+unfolding answer_of
+few bytes o most l (refused k) e = (omega arith, omega arith)
+few bytes o most l (ran r) e =
+    let told = tally_told r.ending (tally_of r) in (
+      omega (arith, ap (λ (c : Tally). c.derived) told, (ran_spent bytes o most l r e).no_more_clauses),
+      omega (arith, ap (λ (c : Tally). c.records) told, ran_records bytes o most l r e),
+    )
+
+few_of : (l : Lengths) (input : List ℕ) → let t = tally_in (answer_of (result_in l input)) in (t.derived ≤ l.pos) × (t.records ≤ min_records)
+unfolding answer_of
+few_of l input = elim (dec_lt (length input) order_bytes) [
+  | yes short ↦ rw (result_short l input short) (omega arith, omega arith)
+  | no not-short ↦ rw (result_checked l input (omega arith)) (few (drop order_bytes input) (order_in input) allowance l _ refl)
+]
+
+-- ---- a check of an input
+
+module _ (input : List ℕ) (before : Tables) where
+  -- fewer bytes than an order has
+  pub answered_short : length input < order_bytes → Answered input before (Refused 1) before
+  unfolding answer_of filled
+  answered_short h =
+      let e = result_short (lengths before) input h in
+      record { answer = ap answer_of (sym e); tables = ap (λ (x : Result). filled x before) (sym e) }
+
+  -- the order of the first bytes, and a check of the bytes after it
+  pub answered_checked :
+      (o : Order) (r : Answer) (after : Tables) → order_bytes ≤ length input → o ≡ order_in input →
+      Checked (take (length input - order_bytes) (drop order_bytes input)) o allowance before r after → Answered input before r after
+  answered_checked o r after h e done =
+      let same = result_read (lengths before) input o h e in
+      record { answer = done.answer ∙ ap answer_of same; tables = done.tables ∙ ap (λ (x : Result). filled x before) same }
+
+-- what it left
 module _ (input : List ℕ) (before after : Tables) (r : Answer) (h : Answered input before r after) where
   pub counts_fit : Within r after
   counts_fit =
       let x = result_in (lengths before) input in
       subst⁻¹ (λ (t : Tables). Within r t) h.tables (subst⁻¹ (λ (a : Answer). Within a (filled x before)) h.answer (within x before))
+
+  pub counts_few : ((tally_in r).derived ≤ length before.pos) × ((tally_in r).records ≤ min_records)
+  counts_few = rw h.answer (few_of (lengths before) input)
 
   pub text_printed : text_in r after ≡ text_of (result_in (lengths before) input)
   text_printed = ap₂ text_in h.answer h.tables ∙ text_is (result_in (lengths before) input) before

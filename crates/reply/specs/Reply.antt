@@ -4,9 +4,7 @@ use Rattle.steps.specs.Clause.{Clause, DSequent}
 use Rattle.order.specs.Order.{Order}
 use Rattle.book.specs.Bytes.{book_bytes, word_at}
 use Rattle.book.specs.Limits.{max_clauses, max_derived, min_records}
-use Rattle.answer.specs.Answer.{of_outcome}
-use Rattle.answer.specs.declared.Answer.{Answer}
-use Rattle.answer.specs.declared.Answer.TheVariants.{Refused}
+use Rattle.answer.specs.Answer.{of_outcome, Answer, Answer.Refused}
 use Rattle.contract.specs.Check.{Lengths, Result, Result.refused, Result.ran, check}
 use Rattle.contract.specs.Filled.{Tables, lengths, answer_of, filled}
 use Rattle.report.specs.Text.{outcome_text, bound}

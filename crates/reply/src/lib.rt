@@ -3,12 +3,15 @@
 
 ghost use Rattle.std.specs.Prelude.{◌≡◌, ◌≤◌, length};
 ghost use Rattle.order.specs.Values.{order_of};
-ghost use Rattle.contract.specs.Filled.{lent};
+ghost use Rattle.answer.specs.Numbers.{by_number};
+ghost use Rattle.contract.specs.Filled.{lengths};
+ghost use Rattle.checker.specs.Lent.{tables_of, SameReferences};
 ghost use Rattle.report.specs.Text.{Printed};
-ghost use Rattle.reply.specs.Reply.{Answered, reply_to, order_bytes, order_in, readable, longest};
+ghost use Rattle.reply.specs.Reply.{Answered, reply_to, order_bytes, order_in, readable, places, longest};
 
-use answer::Answer;
+use answer::{Answer, Refusal};
 use book::Book;
+use checker::Tables;
 use order::Order;
 
 // The branching allowance of the program,
@@ -53,15 +56,31 @@ pub fn respond(input: &[u8], out: &mut [u8]) -> usize
     let mut decided = [0u64; Book::MIN_RECORDS];
     let mut trues = [0u64; Book::MIN_RECORDS];
     let mut redundant = [0u64; Book::MIN_RECORDS];
-    let found = check_input(
-        input,
-        &mut pos,
-        &mut neg,
-        &mut decided,
-        &mut trues,
-        &mut redundant,
-    );
-    report::write_outcome(found, &pos, &neg, &decided, &trues, &redundant, out)
+    let tables = Tables {
+        pos: &mut pos,
+        neg: &mut neg,
+        decided: &mut decided,
+        trues: &mut trues,
+        redundant: &mut redundant,
+    };
+    write_reply(input, tables, out)
+}
+
+// Writes the reply, by tables as long as the program's.
+fn write_reply(input: &[u8], mut tables: Tables<'_>, out: &mut [u8]) -> usize
+    requires places { lengths (tables_of tables) ≡ places }
+    requires longest_in_bounds { longest ≤ length out.old }
+    ensures { Printed (reply_to input.now) out.old out.new result }
+{
+    let found = check_input(input, &mut tables);
+    let Tables {
+        pos,
+        neg,
+        decided,
+        trues,
+        redundant,
+    } = tables;
+    report::write_outcome(found, pos, neg, decided, trues, redundant, out)
 }
 
 // The order in the first bytes of an input. It is public for the other program (crate `filing`), which shows that they are there.
@@ -77,27 +96,12 @@ pub fn order_in(input: &[u8]) -> Order
 }
 
 // Checks the book that follows the order.
-fn check_input(
-    input: &[u8],
-    pos: &mut [u64],
-    neg: &mut [u64],
-    decided: &mut [u64],
-    trues: &mut [u64],
-    redundant: &mut [u64],
-) -> Answer
-    ensures { Answered input.now (lent pos.old neg.old decided.old trues.old redundant.old) result (lent pos.new neg.new decided.new trues.new redundant.new) }
+fn check_input(input: &[u8], tables: &mut Tables<'_>) -> Answer
+    ensures same_references { SameReferences tables.old tables.new }
+    ensures answered { Answered input.now (tables_of tables.old) (by_number result) (tables_of tables.new) }
 {
     if input.len() < ORDER_BYTES {
-        return Answer::Refused(1);
+        return Answer::Refused(Refusal::TooShort);
     }
-    checker::check(
-        &input[ORDER_BYTES..],
-        order_in(input),
-        ALLOWANCE,
-        pos,
-        neg,
-        decided,
-        trues,
-        redundant,
-    )
+    checker::check(&input[ORDER_BYTES..], order_in(input), ALLOWANCE, tables)
 }

@@ -11,10 +11,10 @@ use Rattle.report.specs.Demands.{value_after, Decimal, Decimals}
 use Rattle.report.proofs.Digits.{decimal_digit, decimal_more}
 
 -- how many digits: one below 10, and else one more than n / 10 has
-pub digits_one : (n : ℕ) → n < 10 → length (decimal n) ≡ 1
+digits_one : (n : ℕ) → n < 10 → length (decimal n) ≡ 1
 digits_one n h = ap length (decimal_digit n h)
 
-pub digits_more : (n : ℕ) → 10 ≤ n → length (decimal n) ≡ length (decimal (n / 10)) + 1
+digits_more : (n : ℕ) → 10 ≤ n → length (decimal n) ≡ length (decimal (n / 10)) + 1
 digits_more n h = ap length (decimal_more n h) ∙ length-append (decimal (n / 10)) (digit (n % 10) ∷ [])
 
 -- there is one

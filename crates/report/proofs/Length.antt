@@ -4,10 +4,8 @@ use Prim.Native.Nat.{ℕ, zero, suc, ◌+◌, ◌*◌, ◌^◌, ◌≤◌, ◌<�
 use native.Mathlib.Nat.{mul-suc}
 use native.Mathlib.Omega.{arith}
 use lib.ListN.{length, take, get_or, length-append}
-use Rattle.answer.specs.declared.Tally.{Tally}
-use Rattle.answer.specs.declared.Answer.{Answer}
-use Rattle.answer.specs.declared.Answer.TheVariants.{Can, Cannot, Refused, Stopped}
-use Rattle.report.specs.Text.{word_text, fields, first_line, clause_lines, record_lines, line_bound, bound}
+use Rattle.answer.specs.Answer.{Answer, Answer.Can, Answer.Cannot, Answer.Refused, Answer.Stopped}
+use Rattle.report.specs.Text.{word_text, fields, line, clause_lines, record_lines, line_bound, bound}
 use Rattle.report.proofs.Digits.{decimal_length}
 
 -- each element of the list is below 2 to the power 64
@@ -25,13 +23,6 @@ fields_at_most : {ns : List ℕ} → Words ns → length (fields ns) ≤ 21 * le
 unfolding fields
 fields_at_most none = omega arith
 fields_at_most (more {n} h w) = simp length-append (omega (arith, decimal_length 19 n (omega arith), fields_at_most w))
-
--- the text of the parts that the code read off an answer
-abbrev pub text_with : Answer → ℕ → Tally → List ℕ → List ℕ → List ℕ → List ℕ → List ℕ → List ℕ
-text_with a number t pos neg decided trues redundant =
-    first_line (word_text a) number t
-    ++ (clause_lines (take t.derived pos) (take t.derived neg)
-    ++ record_lines (take t.records decided) (take t.records trues) (take t.records redundant))
 
 -- the first word
 pub word_at_most : (a : Answer) → length (word_text a) ≤ 7
@@ -57,11 +48,12 @@ records_at_most (suc k) (more d wd) none wr = omega arith
 records_at_most (suc k) (more d wd) (more t wt) none = omega arith
 records_at_most (suc k) (more d wd) (more t wt) (more r wr) = simp length-append (omega (arith, fields_at_most (more d (more t (more r none))), records_at_most k wd wt wr, mul-suc (line_bound 1 3) k))
 
--- the bound on the whole text
+-- the bound on the whole text, by its word, its number and its counts
 pub text_at_most :
-    (a : Answer) (number : ℕ) (t : Tally) {pos neg decided trues redundant : List ℕ} → Words (number ∷ t.branchings ∷ t.derived ∷ t.records ∷ [])
-    → Words pos → Words neg → Words decided → Words trues → Words redundant
-    → length (text_with a number t pos neg decided trues redundant) ≤ bound t.derived t.records
-text_at_most a number t w wp wn wd wt wr = simp length-append (
-    omega (arith, word_at_most a, fields_at_most w, clauses_at_most t.derived wp wn, records_at_most t.records wd wt wr)
+    (word : List ℕ) (number branchings derived records : ℕ) {pos neg decided trues redundant : List ℕ} → length word ≤ 7
+    → Words (number ∷ branchings ∷ derived ∷ records ∷ []) → Words pos → Words neg → Words decided → Words trues → Words redundant
+    → length (line word (number ∷ branchings ∷ derived ∷ records ∷ []) ++ (clause_lines (take derived pos) (take derived neg) ++ record_lines (take records decided) (take records trues) (take records redundant)))
+    ≤ bound derived records
+text_at_most word number branchings derived records short w wp wn wd wt wr = simp length-append (
+    omega (arith, fields_at_most w, clauses_at_most derived wp wn, records_at_most records wd wt wr)
     )

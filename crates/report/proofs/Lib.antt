@@ -2,6 +2,7 @@
 pub mod Writing
 pub mod Digits
 pub mod Decimals
+pub mod Printed
 pub mod Unique
 pub mod Widths
 pub mod Parts

@@ -1,18 +1,12 @@
--- Laws of fields: a blank at a time, and a text that fits its field fills it up to its width.
-use mathlib.Core.Path.{◌≡◌, refl, ◌∙◌}
-use mathlib.Core.List.{List, ◌∷◌}
-use Prim.Native.Nat.{ℕ, zero, suc, ◌+◌, ◌-◌, ◌≤◌, ◌<◌}
-use native.Mathlib.Numerals.{unary_clauses}
+-- Laws of fields: a text that fits its field fills it up to its width.
+use mathlib.Core.Path.{◌≡◌, ◌∙◌}
+use mathlib.Core.List.{List}
+use Prim.Native.Nat.{ℕ, ◌+◌, ◌-◌, ◌≤◌, ◌<◌}
 use native.Mathlib.Omega.{arith}
 use lib.ListN.{length, get_or, length-append, length-replicate, get_or-replicate, get_or-append}
 use lib.Seq.{take-append_seam, drop_at, get_or-append-add}
 use Rattle.report.specs.Fields.{blanks, set_left, set_right}
 use Rattle.report.specs.Demands.{Fields}
-
--- the first of some blanks
-pub blanks_more : (k : ℕ) → 0 < k → blanks k ≡ 32 ∷ blanks (k - 1)
-blanks_more zero h = absurd (omega arith)
-blanks_more (suc k) h = simp unary_clauses refl
 
 module _ (width : ℕ) (text : List ℕ) (h : length text ≤ width) where
   pub left_wide : length (set_left width text) ≡ width

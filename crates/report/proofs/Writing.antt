@@ -3,14 +3,17 @@
 -- `Left` says what is left to be written of a whole text, so that a function that writes part after part, in a row or in a loop, goes by its laws alone.
 use mathlib.Core.Path.{◌≡◌, refl, sym, ap, ◌∙◌, subst}
 use mathlib.Core.List.{List, [], ◌∷◌, ◌++◌, append_assoc, append-nil}
-use Prim.Native.Nat.{ℕ, ◌+◌, ◌≤◌, ◌<◌}
+use Prim.Native.Nat.{ℕ, ◌+◌, ◌-◌, ◌≤◌}
 use native.Mathlib.Nat.{add-zero, zero-add, add_assoc}
 use native.Mathlib.Numerals.{add-one}
 use native.Mathlib.Omega.{arith}
-use lib.ListN.{length, take, drop, get_or, set, length-append, length-take, length-drop, take-append-drop}
-use lib.Seq.{take_at, drop-append-add, drop-drop, drop-cons, set_split, append_snoc}
+use lib.ListN.{length, take, drop, set, length-append, length-take, length-drop, take-append-drop}
+use lib.Seq.{take_at, drop-append-add, drop-drop, set_split, append_snoc}
+use borrow.Rule.Slice.PartMut.{put_mid}
 use Rattle.report.specs.Text.{Printed}
 use Rattle.report.specs.Write.{placed, Room, Wrote}
+use Rattle.report.specs.Writer.{Free, Writes}
+use Rattle.report.specs.declared.writer.Writer.{Writer}
 
 -- what was printed is within the buffer
 pub printed_within : {text before after : List ℕ} {r : ℕ} → Printed text before after r → r ≤ length after
@@ -45,51 +48,64 @@ placed_both out at s t h =
 pub wrote_byte : (out : List ℕ) (at byte : ℕ) → Room out at (byte ∷ []) → Wrote out at (byte ∷ []) (set out at byte) (at + 1)
 wrote_byte out at byte room = record { bytes = sym (placed_byte out at byte room); end = refl }
 
+-- and so does changing as many bytes as the text has into the text
+pub wrote_part : (out : List ℕ) (at n : ℕ) (text : List ℕ) → n ≡ length text → Wrote out at text (put_mid at (at + n - at) out text) (at + n)
+unfolding placed
+wrote_part out at n text long =
+    let size : at + n - at ≡ length text = omega arith in
+    record {
+      bytes = ap (λ (k : ℕ). put_mid at k out text) size ∙ ap (λ (l : List ℕ). take at out ++ (text ++ l)) (drop-drop (length text) at out) ∙ sym (append_assoc (take at out) text (drop (at + length text) out));
+      end = omega arith;
+    }
+
 -- a buffer stays as long as it was
 pub wrote_long : {before : List ℕ} {at : ℕ} {text after : List ℕ} {next : ℕ} → Room before at text → Wrote before at text after next → length after ≡ length before
 wrote_long {before} {at} {text} room w = ap length w.bytes ∙ placed_length before at text room
 
--- what is left to be written: writing `rest` at `next` into `out` is writing `whole` at `at` into `before`, and there is room for it
-pub record Left (before : List ℕ) (at : ℕ) (whole out : List ℕ) (next : ℕ) (rest : List ℕ) : Type 0 where
-  pub room : Room out next rest
-  pub long : length out ≡ length before
-  pub end : next + length rest ≡ at + length whole
-  pub bytes : placed out next rest ≡ placed before at whole
+-- what is left to be written: writing `rest` by the writer `now` is writing `whole` by the writer `before`, and there is room for it
+pub record Left (before : Writer) (whole : List ℕ) (now : Writer) (rest : List ℕ) : Type 0 where
+  pub room : Free now rest
+  pub end : now.at + length rest ≡ before.at + length whole
+  pub bytes : placed now.out.now now.at rest ≡ placed before.out.now before.at whole
+  pub same : now.out.ghost_name ≡ before.out.ghost_name
 
 -- at the start the whole text is left
-pub left_all : {out : List ℕ} {at : ℕ} {whole : List ℕ} → Room out at whole → Left out at whole out at whole
-left_all r = record { room = r; long = refl; end = refl; bytes = refl }
+pub left_all : {w : Writer} {whole : List ℕ} → Free w whole → Left w whole w whole
+left_all r = record { room = r; end = refl; bytes = refl; same = refl }
 
 -- by another name
-pub left_as : {before : List ℕ} {at : ℕ} {whole out : List ℕ} {next : ℕ} {rest same : List ℕ} → rest ≡ same → Left before at whole out next rest → Left before at whole out next same
-left_as {before} {at} {whole} {out} {next} e left = subst (Left before at whole out next) e left
+pub left_as : {before : Writer} {whole : List ℕ} {now : Writer} {rest other : List ℕ} → rest ≡ other → Left before whole now rest → Left before whole now other
+left_as {before} {whole} {now} e left = subst (Left before whole now) e left
 
 -- where what is left has two parts, there is room for the first
-pub left_room : {before : List ℕ} {at : ℕ} {whole out : List ℕ} {next : ℕ} {rest s : List ℕ} (t : List ℕ) → rest ≡ s ++ t → Left before at whole out next rest → Room out next s
-left_room {s = s} t e left = record { fits = omega (arith, left.room.fits, ap length e, length-append s t) }
+pub left_room : {before : Writer} {whole : List ℕ} {now : Writer} {rest s : List ℕ} (t : List ℕ) → rest ≡ s ++ t → Left before whole now rest → Free now s
+left_room {s = s} t e left = record { room = record { fits = omega (arith, left.room.room.fits, ap length e, length-append s t) } }
 
 -- and once it is written, the second is left
 pub left_next :
-    {before : List ℕ} {at : ℕ} {whole out : List ℕ} {next : ℕ} {rest s out' : List ℕ} {next' : ℕ} (t : List ℕ)
-    → rest ≡ s ++ t → Left before at whole out next rest → Wrote out next s out' next' → Left before at whole out' next' t
-left_next {out = out} {next = next} {s = s} {out' = out'} t e left w =
-    let same : length out' ≡ length out = wrote_long (left_room t e left) w in
+    {before : Writer} {whole : List ℕ} {now : Writer} {rest s : List ℕ} {next : Writer} (t : List ℕ)
+    → rest ≡ s ++ t → Left before whole now rest → Writes now s next → Left before whole next t
+left_next {now = now} {s = s} {next = next} t e left w =
+    let long : length next.out.now ≡ length now.out.now = wrote_long (left_room t e left).room w.wrote in
     record {
-      room = record { fits = omega (arith, left.room.fits, ap length e, length-append s t) };
-      long = same ∙ left.long;
-      end = omega (arith, left.end, ap length e, length-append s t);
-      bytes = rw (w.bytes, w.end, placed_both out next s t (omega (arith, left.room.fits))) (rw e at left.bytes);
+      room = record { room = record { fits = omega (arith, left.room.room.fits, ap length e, length-append s t, w.wrote.end) } };
+      end = omega (arith, left.end, ap length e, length-append s t, w.wrote.end);
+      bytes = rw (w.wrote.bytes, w.wrote.end, placed_both now.out.now now.at s t (omega (arith, left.room.room.fits))) (rw e at left.bytes);
+      same = w.same ∙ left.same;
     }
 
 -- where nothing is left, the whole text is written
-pub left_none : {before : List ℕ} {at : ℕ} {whole out : List ℕ} {next : ℕ} {rest : List ℕ} → rest ≡ [] → Left before at whole out next rest → Wrote before at whole out next
-left_none {out = out} {next = next} e left = record {
-  bytes = sym (ap (placed out next) e ∙ placed_nothing out next) ∙ left.bytes;
-  end = omega (arith, left.end, ap length e);
+pub left_none : {before : Writer} {whole : List ℕ} {now : Writer} {rest : List ℕ} → rest ≡ [] → Left before whole now rest → Writes before whole now
+left_none {now = now} e left = record {
+  wrote = record {
+    bytes = sym (ap (placed now.out.now now.at) e ∙ placed_nothing now.out.now now.at) ∙ left.bytes;
+    end = omega (arith, left.end, ap length e);
+  };
+  same = left.same;
 }
 
 -- once all that is left is written, the whole text is
-pub left_last : {before : List ℕ} {at : ℕ} {whole out : List ℕ} {next : ℕ} {rest out' : List ℕ} {next' : ℕ} → Left before at whole out next rest → Wrote out next rest out' next' → Wrote before at whole out' next'
+pub left_last : {before : Writer} {whole : List ℕ} {now : Writer} {rest : List ℕ} {last : Writer} → Left before whole now rest → Writes now rest last → Writes before whole last
 left_last {rest = rest} left w = left_none refl (left_next [] (sym (append-nil rest)) left w)
 
 -- a text that is written at the start of a buffer
@@ -97,10 +113,12 @@ pub printed : {text before after : List ℕ} {r : ℕ} → Wrote before 0 text a
 unfolding placed
 printed {text} w = record { bytes = rw zero-add at w.bytes; size = w.end ∙ zero-add (length text) }
 
+-- by a writer that begins there; the buffer ends as what the writer holds, which is the same one
+pub printed_by :
+    {before after : Writer} {text out : List ℕ} → Writes before text after → before.at ≡ 0 → (before.out.ghost_name ≡ after.out.ghost_name → out ≡ after.out.now)
+    → Printed text before.out.now out after.at
+printed_by {after = after} w start ends = rw (ends (sym w.same)) (printed (rw start at w.wrote))
+
 -- a text that was printed, by another name
 pub printed_as : {text same before after : List ℕ} {r : ℕ} → text ≡ same → Printed text before after r → Printed same before after r
 printed_as {before = before} {after = after} {r = r} e p = subst (λ (t : List ℕ). Printed t before after r) e p
-
--- a list from place i on is its element there and the list from the next place on
-pub drop_more : (l : List ℕ) (i : ℕ) → i < length l → drop i l ≡ get_or l i 0 ∷ drop (i + 1) l
-drop_more l i h = rw (add-one) (drop-cons l i 0 h)

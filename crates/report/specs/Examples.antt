@@ -1,6 +1,6 @@
 -- Texts written out, by computation: the example of docs/FORMAT.md, and one text for each other word.
 use Rattle.std.specs.Prelude.{◌≡◌, refl, [], ◌∷◌, ◌-◌, ◌^◌}
-use Rattle.answer.specs.declared.Answer.TheVariants.{Can, Cannot, Refused, Stopped}
+use Rattle.answer.specs.Answer.{Answer.Can, Answer.Cannot, Answer.Refused, Answer.Stopped}
 use Rattle.report.specs.Ascii.{ascii}
 use Rattle.report.specs.Decimal.{decimal, decimal_up_to}
 use Rattle.report.specs.Text.{outcome_text, fields, clause_lines, record_lines}

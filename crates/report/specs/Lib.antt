@@ -3,6 +3,7 @@ pub mod Ascii
 pub mod Decimal
 pub mod Fields
 pub mod Write
+pub mod Writer
 pub mod Text
 pub mod Examples
 pub mod Demands

@@ -1,9 +1,7 @@
 -- The printed outcome (docs/FORMAT.md), as bytes in ASCII: its lines, the whole text, and how long it can be.
 use Rattle.std.specs.Prelude.{◌≡◌, List, [], ◌∷◌, ◌++◌, ℕ, ◌+◌, ◌*◌, ◌≤◌, length, take, drop}
-use Rattle.answer.specs.Answer.{tally_in, number_in}
+use Rattle.answer.specs.Answer.{tally_in, number_in, Answer, Answer.Can, Answer.Cannot, Answer.Refused, Answer.Stopped}
 use Rattle.answer.specs.declared.Tally.{Tally}
-use Rattle.answer.specs.declared.Answer.{Answer}
-use Rattle.answer.specs.declared.Answer.TheVariants.{Can, Cannot, Refused, Stopped}
 use Rattle.report.specs.Ascii.{ascii}
 use Rattle.report.specs.Decimal.{decimal}
 

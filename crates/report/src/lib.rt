@@ -3,14 +3,17 @@
 
 ghost use Rattle.std.specs.Prelude.{◌≤◌, length};
 ghost use Rattle.answer.specs.Answer.{tally_in};
+ghost use Rattle.answer.specs.Numbers.{by_number};
 ghost use Rattle.report.specs.Text.{text_from, Counted, Printed, bound};
 
-use crate::lines::{put_clauses, put_first, put_records};
 use answer::Answer;
 
-pub mod fields;
 mod lines;
-pub mod put;
+mod writer;
+
+pub use lines::printed_word;
+pub use writer::Writer;
+
 // No line is longer: a number takes a blank and at most 20 digits, the first word has at most 7 letters, and the line feed is one byte.
 const NUMBER: usize = 21;
 
@@ -24,6 +27,7 @@ pub const RECORD_LINE: usize = 1 + 3 * NUMBER + 1;
 // derived clauses and the records are the first words of the tables, as many as are counted. The
 // program calls it on tables and a buffer of its own, and shows that the counts are within the tables and that the buffer
 // is as long as the bound on the text.
+// The tables are given one by one: a struct of five shared slices would be the checker's struct over again, for one caller.
 pub fn write_outcome(
     a: Answer,
     pos: &[u64],
@@ -33,9 +37,9 @@ pub fn write_outcome(
     redundant: &[u64],
     out: &mut [u8],
 ) -> usize
-    requires counted { Counted (tally_in a) pos.now neg.now decided.now trues.now redundant.now }
-    requires a_in_bounds { bound (tally_in a).derived (tally_in a).records ≤ length out.old }
-    ensures { Printed (text_from a pos.now neg.now decided.now trues.now redundant.now) out.old out.new result }
+    requires counted { Counted (tally_in (by_number a)) pos.now neg.now decided.now trues.now redundant.now }
+    requires a_in_bounds { bound (tally_in (by_number a)).derived (tally_in (by_number a)).records ≤ length out.old }
+    ensures { Printed (text_from (by_number a) pos.now neg.now decided.now trues.now redundant.now) out.old out.new result }
 {
     let tally = answer::tally_of(a);
     let derived = tally.derived;
@@ -46,7 +50,15 @@ pub fn write_outcome(
         derived as u64,
         records as u64,
     ];
-    let first = put_first(a, &numbers, out, 0);
-    let second = put_clauses(pos, neg, derived, out, first);
-    put_records(decided, trues, redundant, records, out, second)
+    let mut writer = Writer { out, at: 0 };
+    writer.lines(
+        printed_word(a),
+        &numbers,
+        &pos[..derived],
+        &neg[..derived],
+        &decided[..records],
+        &trues[..records],
+        &redundant[..records],
+    );
+    writer.at
 }

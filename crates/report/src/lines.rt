@@ -1,90 +1,74 @@
-// The lines of the text. Each function writes at a place and gives the place after its lines.
-ghost use Rattle.std.specs.Prelude.{◌≤◌, length, take};
-ghost use Rattle.report.specs.Text.{word_text, line, clause_line, record_line, clause_lines, record_lines};
-ghost use Rattle.report.specs.Write.{Room, Wrote};
+// The lines of the text.
+ghost use Rattle.std.specs.Prelude.{◌≡◌, ◌++◌};
+ghost use Rattle.answer.specs.Numbers.{by_number};
+ghost use Rattle.report.specs.Text.{word_text, line, clause_lines, record_lines};
+ghost use Rattle.report.specs.Writer.{Free, Writes};
 
-use crate::put::{put_byte, put_number, put_text};
+use crate::writer::Writer;
 use answer::Answer;
 
-// A line: a word and numbers.
-fn put_line(word: &[u8], numbers: &[u64], out: &mut [u8], at: usize) -> usize
-    requires { Room out.old at (line word.now numbers.now) }
-    ensures { Wrote out.old at (line word.now numbers.now) out.new result }
-{
-    let mut next = put_text(word, out, at);
-    let mut i: usize = 0;
-    while i < numbers.len() {
-        next = put_byte(32, out, next);
-        next = put_number(numbers[i], out, next);
-        i += 1;
-    }
-    put_byte(10, out, next)
-}
-
-// The first line: the word of the answer, and its numbers.
-pub fn put_first(a: Answer, numbers: &[u64], out: &mut [u8], at: usize) -> usize
-    requires { Room out.old at (line (word_text a) numbers.now) }
-    ensures { Wrote out.old at (line (word_text a) numbers.now) out.new result }
+// The word of an answer, which the text begins with. It is public for crate `layout`, as the page begins with it too.
+pub fn printed_word(a: Answer) -> &'static [u8]
+    ensures { result.now ≡ word_text (by_number a) }
 {
     match a {
-        Answer::Can(_) => put_line(b"can", numbers, out, at),
-        Answer::Cannot(_) => put_line(b"cannot", numbers, out, at),
-        Answer::Refused(_) => put_line(b"refused", numbers, out, at),
-        Answer::Stopped(_, _) => put_line(b"stopped", numbers, out, at),
+        Answer::Can(_) => b"can",
+        Answer::Cannot(_) => b"cannot",
+        Answer::Refused(_) => b"refused",
+        Answer::Stopped(_, _) => b"stopped",
     }
 }
 
-// The line of a derived clause.
-fn put_clause(pos: u64, neg: u64, out: &mut [u8], at: usize) -> usize
-    requires { Room out.old at (clause_line pos neg) }
-    ensures { Wrote out.old at (clause_line pos neg) out.new result }
-{
-    let numbers = [pos, neg];
-    put_line(b"d", &numbers, out, at)
-}
-
-// The line of a record.
-fn put_record(decided: u64, trues: u64, redundant: u64, out: &mut [u8], at: usize) -> usize
-    requires { Room out.old at (record_line decided trues redundant) }
-    ensures { Wrote out.old at (record_line decided trues redundant) out.new result }
-{
-    let numbers = [decided, trues, redundant];
-    put_line(b"r", &numbers, out, at)
-}
-
-// The lines of the first clauses of two tables of words.
-pub fn put_clauses(pos: &[u64], neg: &[u64], count: usize, out: &mut [u8], at: usize) -> usize
-    requires count_in_bounds { (count ≤ length pos.now) × (count ≤ length neg.now) }
-    requires room { Room out.old at (clause_lines (take count pos.now) (take count neg.now)) }
-    ensures { Wrote out.old at (clause_lines (take count pos.now) (take count neg.now)) out.new result }
-{
-    let mut next = at;
-    let mut i: usize = 0;
-    while i < count {
-        next = put_clause(pos[i], neg[i], out, next);
-        i += 1;
+impl<'a> Writer<'a> {
+    // A line: a word and numbers.
+    fn line(&mut self, word: &[u8], numbers: &[u64])
+        requires { Free self.old (line word.now numbers.now) }
+        ensures { Writes self.old (line word.now numbers.now) self.new }
+    {
+        self.text(word);
+        for n in numbers {
+            self.byte(b' ');
+            self.number(*n);
+        }
+        self.byte(b'\n');
     }
-    next
-}
 
-// The lines of the first records of three tables of words.
-pub fn put_records(
-    decided: &[u64],
-    trues: &[u64],
-    redundant: &[u64],
-    count: usize,
-    out: &mut [u8],
-    at: usize,
-) -> usize
-    requires count_in_bounds { (count ≤ length decided.now) × (count ≤ length trues.now) × (count ≤ length redundant.now) }
-    requires room { Room out.old at (record_lines (take count decided.now) (take count trues.now) (take count redundant.now)) }
-    ensures { Wrote out.old at (record_lines (take count decided.now) (take count trues.now) (take count redundant.now)) out.new result }
-{
-    let mut next = at;
-    let mut i: usize = 0;
-    while i < count {
-        next = put_record(decided[i], trues[i], redundant[i], out, next);
-        i += 1;
+    // The lines of clauses whose two words stand side by side.
+    fn clauses(&mut self, pos: &[u64], neg: &[u64])
+        requires { Free self.old (clause_lines pos.now neg.now) }
+        ensures { Writes self.old (clause_lines pos.now neg.now) self.new }
+    {
+        for (p, n) in pos.iter().zip(neg) {
+            self.line(b"d", &[*p, *n]);
+        }
     }
-    next
+
+    // The lines of records whose three words stand side by side.
+    fn records(&mut self, decided: &[u64], trues: &[u64], redundant: &[u64])
+        requires { Free self.old (record_lines decided.now trues.now redundant.now) }
+        ensures { Writes self.old (record_lines decided.now trues.now redundant.now) self.new }
+    {
+        for ((d, t), r) in decided.iter().zip(trues).zip(redundant) {
+            self.line(b"r", &[*d, *t, *r]);
+        }
+    }
+
+    // The whole text: the first line, by its word and numbers, and the lines of the clauses and of the records.
+    pub(crate) fn lines(
+        &mut self,
+        word: &[u8],
+        numbers: &[u64],
+        pos: &[u64],
+        neg: &[u64],
+        decided: &[u64],
+        trues: &[u64],
+        redundant: &[u64],
+    )
+        requires { Free self.old (line word.now numbers.now ++ (clause_lines pos.now neg.now ++ record_lines decided.now trues.now redundant.now)) }
+        ensures { Writes self.old (line word.now numbers.now ++ (clause_lines pos.now neg.now ++ record_lines decided.now trues.now redundant.now)) self.new }
+    {
+        self.line(word, numbers);
+        self.clauses(pos, neg);
+        self.records(decided, trues, redundant);
+    }
 }

@@ -13,7 +13,6 @@ use Rattle.words.proofs.Truth.{both_ways}
 use Rattle.words.proofs.Membership.{has_or}
 use Rattle.words.proofs.Sets.{and_within_l, or_within, minus_within, within_trans, within_lt, lt_within, meets_false}
 use Rattle.words.proofs.Count.{ones_within}
-use Rattle.words.proofs.Shift.{one_shifted}
 use Rattle.steps.specs.Clause.{Clause, literals, vars, Assignment, decide, keepers, undecided_in}
 use Rattle.steps.specs.Tally.{Tally, tally_of, literal, entries, decided, withdrawn}
 use Rattle.steps.specs.Demands.{Free}
@@ -27,11 +26,6 @@ use Rattle.rows.specs.declared.tally.Delta.{Delta}
 pub digit_small : (p : Bool) → digit p ≤ 1
 digit_small true = omega arith
 digit_small false = omega arith
-
--- the digit shifted by fewer places than a word has is the bit of that place, or none
-pub digit_shifted : (p : Bool) (k : ℕ) → k < 64 → (digit p * 2 ^ k) % 2 ^ 64 ≡ masked p (2 ^ k)
-digit_shifted true k h = one_shifted k h
-digit_shifted false k h = omega arith
 
 -- ---- what the words have below 256, where fewer than 128 decisions satisfy the clause
 

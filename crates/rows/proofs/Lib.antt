@@ -3,9 +3,10 @@ pub mod Lists
 pub mod Tables
 pub mod Counts
 pub mod Blocks
+pub mod Both
 pub mod Reading
-mod Cursors
 pub mod Walks
+pub mod Chains
 mod Additions
 mod Strikes
 mod Shifts

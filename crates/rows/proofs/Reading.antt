@@ -1,6 +1,6 @@
 -- What the tallies of a table say of its clause of number i, which stands at place i % 64 of block i / 64: its counts, and whether it is in a row. A clause that fewer
 -- than 128 decisions satisfy is in the row of those in play exactly if it is not inactive. A look-up that walks through two rows passes the clauses that are not in both:
--- where those fail its test, all clauses below the one at which it stands fail it.
+-- where those fail its test, all clauses before the one that comes fail it.
 use mathlib.Core.Path.{◌≡◌, refl, sym, ap, ap₂, ◌∙◌}
 use mathlib.Core.Bool.{Bool, true, false, not, ◌&&◌, ◌||◌, not-not, and_self}
 use mathlib.Core.List.{List}
@@ -21,10 +21,11 @@ use Rattle.steps.specs.Enter.{unit}
 use Rattle.steps.specs.Tally.{tally_of}
 use Rattle.steps.proofs.Tally.{by_tally}
 use Rattle.rows.specs.Rows.{clause_at}
-use Rattle.rows.specs.Index.{row_at, count_of, is_in, playing, unsatisfied, struck, naming, Passed}
+use Rattle.rows.specs.Index.{row_at, count_of, is_in, playing, unsatisfied, struck, naming, NoneIn, coming, Walks}
 use Rattle.rows.specs.Tally.{counts_of, Counted, is_unsatisfied, is_single, Block, Tallied, Variable}
-use Rattle.rows.specs.declared.index.Cursor.{Cursor}
+use Rattle.rows.specs.declared.index.Walk.{Walk}
 use Rattle.rows.proofs.Walks.{number_is}
+use Rattle.rows.proofs.Both.{Turn, none_after}
 
 -- ---- the word of the counts, of a clause that n decisions satisfy and of which u literals are undecided
 
@@ -172,20 +173,33 @@ pub falsified_out : {t q : List ℕ} {m : ℕ} {a : Assignment} {k : ℕ}
 falsified_out {t} {q} {m} {a} {k} x apart i h e =
     refuted (falsified a (clause_at t i)) (λ f. both_ways (is_in q playing i) (falsified_plays x i h apart f) (sym (and_self (is_in q playing i)) ∙ e))
 
--- through those in two rows: P holds of every clause that is not in both
-module _ (P : ℕ → Type 0) {q : List ℕ} {m u w : ℕ} (out : (x : ℕ) → x < m → (is_in q u x && is_in q w x) ≡ false → P x) where
-  -- where it holds of all below i, from which the walk has gone to c, it holds of all below c
-  further : {i : ℕ} {c : Cursor} → ((x : ℕ) → x < i → x < m → P x) → Passed q m u w i c → (x : ℕ) → x < c.number → x < m → P x
-  further {i} all s x l h = go (ltb x i) refl
-    where
-      go : (b : Bool) → ltb x i ≡ b → P x
-      go true e = all x (ltb-true x i e) h
-      go false e = out x h (s.none x (ltb-false x i e) l h)
+-- through those in two rows: where P holds of every clause that is not in both, of all below i, and none from i on before k is in both, it holds of all below k
+further : (P : ℕ → Type 0) (q : List ℕ) (m u w : ℕ) {i k : ℕ}
+    → ((x : ℕ) → x < m → (is_in q u x && is_in q w x) ≡ false → P x)
+    → ((x : ℕ) → x < i → x < m → P x)
+    → NoneIn q m u w i k
+    → (x : ℕ) → x < k → x < m → P x
+further P q m u w {i} out all none x l h = go (ltb x i) refl
+  where
+    go : (b : Bool) → ltb x i ≡ b → P x
+    go true e = all x (ltb-true x i e) h
+    go false e = out x h (none x (ltb-false x i e) l h)
 
-  -- so it holds of all below the first clause in both
-  pub walk_begins : {c : Cursor} → Passed q m u w 0 c → (x : ℕ) → x < c.number → x < m → P x
-  walk_begins s = further (below_none _) s
+module _ (P : ℕ → Type 0) {q : List ℕ} {m u w : ℕ} (out : (x : ℕ) → x < m → (is_in q u x && is_in q w x) ≡ false → P x) {s : Walk} where
+  -- so it holds of all before the walk begins
+  pub walk_begins : Walks q m u w s × NoneIn q m u w 0 (coming s) → (x : ℕ) → x < coming s → x < m → P x
+  walk_begins go = further P q m u w out (below_none _) go.1
 
-  -- and of all below the next, where it holds of the one at which the walk stood
-  pub walk_goes : {i : ℕ} {c : Cursor} → ((x : ℕ) → x < i → x < m → P x) → P i → Passed q m u w (i + 1) c → (x : ℕ) → x < c.number → x < m → P x
-  walk_goes {i} all here s = further (below_more _ i all (λ h. here)) s
+  module _ (all : (x : ℕ) → x < coming s → x < m → P x) where
+    -- and where it ends of all
+    pub walk_ends : Walks q m u w s → NoneIn s.q.now s.m s.u s.w (coming s) s.m → (x : ℕ) → x < m → x < m → P x
+    walk_ends go none = further P q m u w out all (none_after go none)
+
+    -- and in a turn of all below the clause that comes
+    module _ {t : Walk} {i : ℕ} (turn : Turn q m u w s i t) where
+      pub walk_comes : (x : ℕ) → x < i → x < m → P x
+      walk_comes = further P q m u w out all turn.before
+
+      -- and then, where it holds of that one, of all that the walk has passed
+      pub walk_goes : P i → (x : ℕ) → x < coming t → x < m → P x
+      walk_goes here = further P q m u w out (below_more _ i walk_comes (λ h. here)) turn.after

@@ -26,6 +26,7 @@ pub fn literals(sign: bool, c: Clause) -> u64
 }
 
 // The variables that a clause names.
+#[tactic(auto, unfolding(steps::specs::Clause::vars))]
 pub fn vars(c: Clause) -> u64
     ensures { result ≡ Vars (clause_of c) }
 {
@@ -33,6 +34,7 @@ pub fn vars(c: Clause) -> u64
 }
 
 // The decided variables that make a literal true.
+#[tactic(auto, unfolding(steps::specs::Clause::keepers))]
 pub fn keepers(a: Assignment, c: Clause) -> u64
     ensures { result ≡ Keepers (assignment_of a) (clause_of c) }
 {
@@ -47,6 +49,7 @@ pub fn covers(d: Clause, c: Clause) -> bool
 }
 
 // The clause names a variable of k.
+#[tactic(auto, unfolding(steps::specs::Clause::names))]
 pub fn names(k: u64, c: Clause) -> bool
     ensures { result ≡ Names k (clause_of c) }
 {
@@ -54,6 +57,7 @@ pub fn names(k: u64, c: Clause) -> bool
 }
 
 // How many literals are undecided: a count of ones of both masked words.
+#[tactic(auto, unfolding(steps::specs::Clause::undecided_in))]
 pub fn undecided_in(a: Assignment, c: Clause) -> u32
     ensures { result ≡ undecided_in (assignment_of a) (clause_of c) }
 {
@@ -62,6 +66,7 @@ pub fn undecided_in(a: Assignment, c: Clause) -> u32
 }
 
 // The two clauses joined, without v's literals.
+#[tactic(auto, unfolding(steps::specs::Merge::resolvent))]
 pub fn resolvent(v: u64, c: Clause, d: Clause) -> Clause
     ensures { clause_of result ≡ Resolvent v (clause_of c) (clause_of d) }
 {
@@ -75,15 +80,8 @@ pub fn resolvent(v: u64, c: Clause, d: Clause) -> Clause
 pub fn decide(a: Assignment, v: u64, value: bool) -> Assignment
     ensures { assignment_of result ≡ Decide (assignment_of a) v value }
 {
-    if value {
-        Assignment {
-            decided: a.decided | v,
-            trues: a.trues | v,
-        }
-    } else {
-        Assignment {
-            decided: a.decided | v,
-            trues: a.trues,
-        }
+    Assignment {
+        decided: a.decided | v,
+        trues: if value { a.trues | v } else { a.trues },
     }
 }

@@ -1,32 +1,59 @@
-// The index of the clauses, beside their counts in q. The clauses stand in blocks of 64. A block has the words of their counts, and after them a word for each row, in
-// which a clause has the bit of its place in the block: the clauses in play, those that no decision satisfies, those that name a redundant variable, and for each
-// variable those that name it.
-ghost use Rattle.std.specs.Prelude.{◌≡◌, ℕ, ◌+◌, ◌*◌, ◌≤◌, ◌<◌, length};
+// The index of the clauses, beside their counts in q. It is a slice of words, as the clause table is: the run's contract (`LeftTallied`) speaks of such a list.
+// The clauses stand in blocks of 64. A block has the words of their counts, and after them a word for each row, in which a clause has the bit of its place in the block:
+// the clauses in play, those that no decision satisfies, those that name a redundant variable, and for each variable those that name it.
+ghost use Rattle.std.specs.Prelude.{◌≡◌, ℕ, ◌+◌, ◌-◌, ◌*◌, ◌≤◌, ◌<◌, length};
 ghost use Rattle.words.specs.Words.{has, meets};
-ghost use Rattle.rows.specs.Index.{tally_words, count_of, row_at, is_in, put_row, naming as Naming, both_at, From, Standing, Passed, Emptied, Entered};
+ghost use Rattle.std.specs.Iterator.{at_most};
+ghost use Rattle.rows.specs.Index.{blocks, tally_words, count_of, row_at, row_of, is_in, put_row, naming as Naming, both_at, NoneIn, Sought, Walks, coming, Comes, Emptied, Entered};
 
 // How many clauses a block has, and how many words.
 pub const BLOCK: usize = 64;
 
 pub const WORDS: usize = 131;
 
-// Which row: three, and then those of the variables.
-pub const PLAYING: usize = 0;
-
-pub const UNSATISFIED: usize = 1;
-
-pub const STRUCK: usize = 2;
-
-pub const VARS: usize = 3;
-
 // How many rows a block has.
 pub const ROWS: usize = 67;
 
-// Where a walk through the clauses that are in two rows stands: at a clause, with the bits of those that are left in its block, it among them.
+// A row: the clauses in play, those that no decision satisfies, those that name a redundant variable, and those that name the variable of this number.
 #[derive(Clone, Copy)]
-pub struct Cursor {
-    pub number: usize,
-    pub left: u64,
+pub enum Row {
+    Playing,
+    Unsatisfied,
+    Struck,
+    Naming(u32),
+}
+
+impl Row {
+    // Which of a block's rows it is.
+    fn number(self) -> usize
+        ensures { result ≡ row_of self }
+    {
+        match self {
+            Row::Playing => 0,
+            Row::Unsatisfied => 1,
+            Row::Struck => 2,
+            Row::Naming(v) => 3 + v as usize,
+        }
+    }
+}
+
+// A walk through the clauses of the m that are in the rows of two numbers, lowest first: the block to which it has come, and the bits of those there that it has still to
+// come to.
+#[derive(Clone, Copy)]
+pub struct Walk<'a> {
+    q: &'a [u64],
+    m: usize,
+    u: usize,
+    w: usize,
+    block: usize,
+    left: u64,
+}
+
+// How many blocks m clauses begin.
+pub fn blocks(m: usize) -> usize
+    ensures { result ≡ blocks m }
+{
+    m.div_ceil(64)
 }
 
 // The counts of the clause of number i.
@@ -38,75 +65,90 @@ pub fn count(q: &[u64], i: usize) -> u64
 }
 
 // The word of block j in row u.
-pub fn row(q: &[u64], j: usize, u: usize) -> u64
-    requires { (131 * j + 131 ≤ length q.now) × (u < 67) }
-    ensures { result ≡ row_at q.now j u }
+pub fn word(q: &[u64], j: usize, u: Row) -> u64
+    requires { (131 * j + 131 ≤ length q.now) × (row_of u < 67) }
+    ensures { result ≡ row_at q.now j (row_of u) }
 {
-    q[131 * j + 64 + u]
+    q[131 * j + 64 + u.number()]
 }
 
 // Whether the clause of number i is in row u.
-pub fn is_in(q: &[u64], u: usize, i: usize) -> bool
-    requires { (tally_words (i + 1) ≤ length q.now) × (u < 67) }
-    ensures { result ≡ is_in q.now u i }
+pub fn is_in(q: &[u64], u: Row, i: usize) -> bool
+    requires { (tally_words (i + 1) ≤ length q.now) × (row_of u < 67) }
+    ensures { result ≡ is_in q.now (row_of u) i }
 {
-    words::bit_of(row(q, i / 64, u), (i % 64) as u32) == 1
+    words::bit_of(word(q, i / 64, u), (i % 64) as u32) == 1
 }
 
 // Puts the word of block j in row u.
-pub fn put_row(q: &mut [u64], j: usize, u: usize, x: u64)
-    requires { (131 * j + 131 ≤ length q.old) × (u < 67) }
-    ensures { q.new ≡ put_row q.old j u x }
+pub fn put_row(q: &mut [u64], j: usize, u: Row, x: u64)
+    requires { (131 * j + 131 ≤ length q.old) × (row_of u < 67) }
+    ensures { q.new ≡ put_row q.old j (row_of u) x }
 {
-    q[131 * j + 64 + u] = x;
+    q[131 * j + 64 + u.number()] = x;
 }
 
-// The clauses of block j that are in both rows.
-fn both(q: &[u64], j: usize, u: usize, w: usize) -> u64
+// The clauses of block j that are in the rows of both numbers.
+fn shared(q: &[u64], j: usize, u: usize, w: usize) -> u64
     requires { (131 * j + 131 ≤ length q.now) × (u < 67) × (w < 67) }
     ensures { result ≡ both_at q.now u w j }
 {
-    row(q, j, u) & row(q, j, w)
+    q[131 * j + 64 + u] & q[131 * j + 64 + w]
 }
 
-// Goes on from the block, of which the clauses `word` are left, to the next clause in both rows; to m where there is none.
-fn seek(q: &[u64], m: usize, u: usize, w: usize, block: usize, word: u64) -> Cursor
-    requires { (tally_words m ≤ length q.now) × (64 * block < m) × (u < 67) × (w < 67) }
-    ensures { (low : ℕ) → low ≤ 64 → 64 * block + low ≤ m → From q.now u w block low word → Standing q.now m u w result × Passed q.now m u w (64 * block + low) result }
+// A walk through the clauses in both rows, as in `for i in index::both(q, m, u, w)`.
+pub fn both<'a>(q: &'a [u64], m: usize, u: Row, w: Row) -> Walk<'a>
+    requires { (tally_words m ≤ length q.now) × (row_of u < 67) × (row_of w < 67) }
+    ensures { Walks q.now m (row_of u) (row_of w) result × NoneIn q.now m (row_of u) (row_of w) 0 (coming result) }
 {
-    let mut j = block;
-    let mut left = word;
-    while left == 0 {
-        j += 1;
-        if m <= 64 * j {
-            return Cursor { number: m, left: 0 };
+    let u = u.number();
+    let w = w.number();
+    Walk {
+        q,
+        m,
+        u,
+        w,
+        block: 0,
+        left: if m == 0 { 0 } else { shared(q, 0, u, w) },
+    }
+}
+
+// The block in which a walk goes on, and the clauses there that it has still to come to.
+fn seek<'a>(s: Walk<'a>) -> Option<(usize, u64)>
+    requires { Walks s.q.now s.m s.u s.w s }
+    ensures { Sought s.entry result }
+{
+    if s.left != 0 {
+        return Some((s.block, s.left));
+    }
+    for j in s.block + 1..blocks(s.m) {
+        let x = shared(s.q, j, s.u, s.w);
+        if x != 0 {
+            return Some((j, x));
         }
-        left = both(q, j, u, w);
     }
-    Cursor {
-        number: 64 * j + (words::lowest_var(left) as usize),
-        left: left,
-    }
+    None
 }
 
-// The first clause in both rows.
-pub fn first(q: &[u64], m: usize, u: usize, w: usize) -> Cursor
-    requires { (tally_words m ≤ length q.now) × (u < 67) × (w < 67) }
-    ensures { Standing q.now m u w result × Passed q.now m u w 0 result }
-{
-    if m == 0 {
-        return Cursor { number: 0, left: 0 };
-    }
-    seek(q, m, u, w, 0, both(q, 0, u, w))
-}
+impl<'a> Iterator for Walk<'a> {
+    type Item = usize;
 
-// The next one after that at which the walk stands.
-pub fn next(q: &[u64], m: usize, u: usize, w: usize, at: Cursor) -> Cursor
-    requires { (tally_words m ≤ length q.now) × (u < 67) × (w < 67) × (at.number < m) × Standing q.now m u w at }
-    ensures { Standing q.now m u w result × Passed q.now m u w (at.number + 1) result }
-{
-    let number = at.number;
-    seek(q, m, u, w, number / 64, words::rest_of(at.left))
+    ghost can_next = { λ s. Walks s.q.now s.m s.u s.w s };
+
+    ghost next_gives = { λ s r t. Comes s r t };
+
+    ghost remaining = { λ s. at_most (s.m - coming s) };
+
+    fn next(&mut self) -> Option<usize> {
+        let (block, left) = seek(*self)?;
+        let i = 64 * block + words::lowest_var(left) as usize;
+        if self.m <= i {
+            return None;
+        }
+        self.block = block;
+        self.left = words::rest_of(left);
+        Some(i)
+    }
 }
 
 // The clauses of block j that name one of the variables k.
@@ -114,12 +156,9 @@ pub fn naming(q: &[u64], j: usize, k: u64) -> u64
     requires { 131 * j + 131 ≤ length q.now }
     ensures { (b x : ℕ) → ((v : ℕ) → v < 64 → has (row_at q.now j (Naming v)) b ≡ has x v) → has result b ≡ meets x k }
 {
-    let mut left = k;
     let mut all = 0;
-    while left != 0 {
-        let v = words::lowest_var(left) as usize;
-        all |= row(q, j, VARS + v);
-        left = words::rest_of(left);
+    for v in words::members(k) {
+        all |= word(q, j, Row::Naming(v));
     }
     all
 }
@@ -129,10 +168,8 @@ pub fn clear(q: &mut [u64], j: usize)
     requires { 131 * j + 131 ≤ length q.old }
     ensures { Emptied q.old q.new j }
 {
-    let mut u = 0;
-    while u < ROWS {
-        put_row(q, j, u, 0);
-        u += 1;
+    for u in 0..ROWS {
+        q[131 * j + 64 + u] = 0;
     }
 }
 
@@ -141,11 +178,9 @@ pub fn enter(q: &mut [u64], j: usize, bit: u64, vars: u64)
     requires { 131 * j + 131 ≤ length q.old }
     ensures { Entered q.old q.new j bit vars }
 {
-    let mut left = vars;
-    while left != 0 {
-        let v = words::lowest_var(left) as usize;
-        let word = row(q, j, VARS + v);
-        put_row(q, j, VARS + v, word | bit);
-        left = words::rest_of(left);
+    for v in words::members(vars) {
+        let u = Row::Naming(v);
+        let before = word(q, j, u);
+        put_row(q, j, u, before | bit);
     }
 }

@@ -1,4 +1,4 @@
-// The list of D-sequents: k of them, each three words, the decided variables, those of them true, and the redundant ones.
+// The list of D-sequents: k of them, each three words, the decided variables, those of them true, and the redundant ones. It is a slice of words, as the clause table is.
 ghost use Rattle.std.specs.Prelude.{◌≡◌, ◌+◌, ◌≤◌, length};
 ghost use Rattle.steps.specs.Clause.{last as Last};
 ghost use Rattle.rows.specs.Values.{sequent_of};
@@ -43,6 +43,7 @@ pub fn last(rs: &[u64], k: usize) -> DSequent
 }
 
 // Puts the D-sequent at number i.
+#[tactic(auto, unfolding(crate::specs::Rows::put_sequent))]
 pub fn put(rs: &mut [u64], i: usize, d: DSequent)
     requires { sequent_words (i + 1) ≤ length rs.old }
     ensures { rs.new ≡ put_sequent rs.old i (sequent_of d) }
@@ -53,19 +54,18 @@ pub fn put(rs: &mut [u64], i: usize, d: DSequent)
 }
 
 // Steps 6 and 7: keeps the D-sequents whose decisions do not name v, in order, and answers how many they are.
+// In place, so by two numbers: the one that is read and the one that is put.
 pub fn without(rs: &mut [u64], k: usize, v: u64) -> usize
     requires { sequent_words k ≤ length rs.old }
     ensures { Kept rs.old k v rs.new result }
 {
-    let mut i = 0;
     let mut j = 0;
-    while i < k {
+    for i in 0..k {
         let d = sequent_at(rs, i);
         if !words::meets(d.decided, v) {
             put(rs, j, d);
             j += 1;
         }
-        i += 1;
     }
     j
 }

@@ -1,7 +1,8 @@
 // What a run has in hand at a point, beside its work tables: counts, limits, and one more D-sequent.
 ghost use Rattle.std.specs.Prelude.{◌≡◌, List, ℕ, ◌+◌, ◌≤◌, length};
-ghost use Rattle.steps.specs.State.{undecided as Undecided, append as Append, append_falsified};
-ghost use Rattle.rows.specs.Values.{clause_of, assignment_of, env_of};
+ghost use Rattle.steps.specs.Clause.{last};
+ghost use Rattle.steps.specs.State.{State, undecided as Undecided, live as Live, append as Append, append_falsified};
+ghost use Rattle.rows.specs.Values.{clause_of, assignment_of, sequent_of, env_of};
 ghost use Rattle.rows.specs.Rows.{sequent_words, state_of, Room};
 
 use super::clause::{Assignment, Clause};
@@ -32,6 +33,15 @@ pub fn undecided(e: Env, a: Assignment) -> u64
     words::minus(words::first_of(e.vars), a.decided)
 }
 
+// The live variables, those undecided that the last D-sequent, d, does not strike.
+#[tactic(auto, unfolding(steps::specs::State::live))]
+pub fn live(e: Env, a: Assignment, d: DSequent) -> u64
+    requires { e.vars ≤ 64 }
+    ensures { (s : State) → sequent_of d ≡ last s.records → result ≡ Live (env_of e) (assignment_of a) s }
+{
+    words::minus(undecided(e, a), d.redundant)
+}
+
 // One more D-sequent: the decisions of a on the variables `on`, and the set k.
 pub fn append(rs: &mut [u64], a: Assignment, on: u64, k: u64, s: Counts) -> Counts
     requires { sequent_words (s.records + 1) ≤ length rs.old }
@@ -48,9 +58,8 @@ pub fn append(rs: &mut [u64], a: Assignment, on: u64, k: u64, s: Counts) -> Coun
         },
     );
     Counts {
-        clauses: s.clauses,
         records: at + 1,
-        branchings: s.branchings,
+        ..s
     }
 }
 

@@ -1,4 +1,5 @@
-// The clause table: m clauses, each two words, the positive literals and then the negative ones.
+// The clause table: m clauses, each two words, the positive literals and then the negative ones. It is a slice of words, since the theorems on `Book::from_words` and
+// `read_table` speak of such a table.
 ghost use Rattle.std.specs.Prelude.{◌≡◌, true, false, List, ℕ, ◌+◌, ◌≤◌, length};
 ghost use Rattle.steps.specs.Lists.{any, find};
 ghost use Rattle.words.specs.Words.{meets};
@@ -12,19 +13,13 @@ ghost use Rattle.rows.specs.Index.{tally_words};
 ghost use Rattle.rows.specs.Tally.{Tallied, Variable};
 
 use super::clause::Clause;
+use super::index::Row;
 use super::{clause, index, tally};
 
 // How many words a clause takes.
 pub const WORDS: usize = 2;
 
-// The clause that a look-up finds.
-#[derive(Clone, Copy)]
-pub enum Lookup {
-    Found(Clause),
-    Nothing,
-}
-
-// The clause of number i.
+// The clause of number i. Loops over the clauses go by number, as the definitions `clauses` and `from` do.
 pub fn clause_at(t: &[u64], i: usize) -> Clause
     requires { clause_words (i + 1) ≤ length t.now }
     ensures { clause_of result ≡ clause_at t.now i }
@@ -48,92 +43,60 @@ pub fn any_falsified(q: &[u64], m: usize) -> bool
     requires { tally_words m ≤ length q.now }
     ensures { (t : List ℕ) (a : Decisions) (k : ℕ) → meets k a.decided ≡ false → Tallied t q.now m a k → result ≡ any (Falsified a) (clauses t m) }
 {
-    let mut at = index::first(q, m, index::PLAYING, index::PLAYING);
-    while at.number < m {
-        let i = at.number;
-        if tally::is_falsified(index::count(q, i)) {
-            return true;
-        }
-        at = index::next(q, m, index::PLAYING, index::PLAYING, at);
-    }
-    false
+    let mut playing = index::both(q, m, Row::Playing, Row::Playing);
+    playing.any(|i| tally::is_falsified(index::count(q, i)))
 }
 
 // Step 2: the lowest-numbered falsified clause that names v. No clause names the empty word, which stands for a first side.
-pub fn falsified_naming(t: &[u64], q: &[u64], m: usize, v: u64) -> Lookup
+pub fn falsified_naming(t: &[u64], q: &[u64], m: usize, v: u64) -> Option<Clause>
     requires { (clause_words m ≤ length t.now) × (tally_words m ≤ length q.now) }
     ensures { (a : Decisions) (k : ℕ) → meets k a.decided ≡ false → Tallied t.now q.now m a k → found_of result ≡ falsified_naming v a (clauses t.now m) }
 {
     if v == 0 {
-        return Lookup::Nothing;
+        return None;
     }
-    let mut at = index::first(q, m, index::PLAYING, index::PLAYING);
-    while at.number < m {
-        let i = at.number;
-        if tally::is_falsified(index::count(q, i)) {
-            let c = clause_at(t, i);
-            if clause::names(v, c) {
-                return Lookup::Found(c);
-            }
-        }
-        at = index::next(q, m, index::PLAYING, index::PLAYING, at);
-    }
-    Lookup::Nothing
+    let mut playing = index::both(q, m, Row::Playing, Row::Playing);
+    let i = playing.find(|i| {
+        tally::is_falsified(index::count(q, *i)) && clause::names(v, clause_at(t, *i))
+    })?;
+    Some(clause_at(t, i))
 }
 
 // Step 5: the lowest-numbered clause with exactly one undecided literal, not satisfied and naming nothing redundant.
-pub fn unit_clause(t: &[u64], q: &[u64], m: usize) -> Lookup
+pub fn unit_clause(t: &[u64], q: &[u64], m: usize) -> Option<Clause>
     requires { (clause_words m ≤ length t.now) × (tally_words m ≤ length q.now) }
     ensures { (a : Decisions) (k : ℕ) → Tallied t.now q.now m a k → found_of result ≡ find (Unit a k) (clauses t.now m) }
 {
-    let mut at = index::first(q, m, index::PLAYING, index::PLAYING);
-    while at.number < m {
-        let i = at.number;
-        if tally::is_single(index::count(q, i)) {
-            return Lookup::Found(clause_at(t, i));
-        }
-        at = index::next(q, m, index::PLAYING, index::PLAYING, at);
-    }
-    Lookup::Nothing
+    let mut playing = index::both(q, m, Row::Playing, Row::Playing);
+    let i = playing.find(|i| tally::is_single(index::count(q, *i)))?;
+    Some(clause_at(t, i))
 }
 
 // Step 7: the lowest-numbered clause that is in play with the literal of v and the sign.
-pub fn in_play(t: &[u64], q: &[u64], m: usize, v: u64, sign: bool) -> Lookup
+pub fn in_play(t: &[u64], q: &[u64], m: usize, v: u64, sign: bool) -> Option<Clause>
     requires { (clause_words m ≤ length t.now) × (tally_words m ≤ length q.now) × Variable v }
     ensures { (a : Decisions) (k : ℕ) → Tallied t.now q.now m a k → found_of result ≡ find (in_play (record { var = v; sign = sign }) a k) (clauses t.now m) }
 {
-    let row = index::VARS + (words::lowest_var(v) as usize);
-    let mut at = index::first(q, m, index::PLAYING, row);
-    while at.number < m {
-        let c = clause_at(t, at.number);
-        if words::meets(clause::literals(sign, c), v) {
-            return Lookup::Found(c);
-        }
-        at = index::next(q, m, index::PLAYING, row, at);
-    }
-    Lookup::Nothing
+    let number = words::lowest_var(v);
+    let mut naming = index::both(q, m, Row::Playing, Row::Naming(number));
+    let i = naming.find(|i| words::meets(literals_at(t, *i, sign), v))?;
+    Some(clause_at(t, i))
 }
 
 // Step 7: the lowest-numbered clause of the table that covers c. The decisions falsify c, and so every clause that covers it. The first one ends the walk.
-pub fn cover(t: &[u64], q: &[u64], m: usize, c: Clause) -> Lookup
+pub fn cover(t: &[u64], q: &[u64], m: usize, c: Clause) -> Option<Clause>
     requires { (clause_words m ≤ length t.now) × (tally_words m ≤ length q.now) }
     ensures { (a : Decisions) (k : ℕ) → meets k a.decided ≡ false → Falsified a (clause_of c) ≡ true → Tallied t.now q.now m a k → found_of result ≡ Cover (clause_of c) (clauses t.now m) }
 {
-    let mut at = index::first(q, m, index::PLAYING, index::PLAYING);
-    while at.number < m {
-        let i = at.number;
-        if tally::is_falsified(index::count(q, i)) {
-            let d = clause_at(t, i);
-            if clause::covers(d, c) {
-                return Lookup::Found(d);
-            }
-        }
-        at = index::next(q, m, index::PLAYING, index::PLAYING, at);
-    }
-    Lookup::Nothing
+    let mut playing = index::both(q, m, Row::Playing, Row::Playing);
+    let i = playing.find(|i| {
+        tally::is_falsified(index::count(q, *i)) && clause::covers(clause_at(t, *i), c)
+    })?;
+    Some(clause_at(t, i))
 }
 
 // Puts the clause at number i.
+#[tactic(auto, unfolding(crate::specs::Rows::put_clause))]
 pub fn put(t: &mut [u64], i: usize, c: Clause)
     requires { clause_words (i + 1) ≤ length t.old }
     ensures { t.new ≡ put_clause t.old i (clause_of c) }

@@ -11,6 +11,7 @@ ghost use Rattle.rows.specs.Index.{tally_words, row_at, naming};
 ghost use Rattle.rows.specs.Tally.{Tallied, Variable, Changing, Opened, Put, Shiftable, Shifted, Changed, Leads, Leaving};
 
 use super::clause::{Assignment, Clause};
+use super::index::Row;
 use super::tally::Delta;
 use super::{clause, index, table, tally};
 
@@ -31,9 +32,9 @@ fn put_rows(q: &mut [u64], j: usize, unkept: u64, marked: u64)
     requires { 131 * j + 131 ≤ length q.old }
     ensures { Put q.old q.new j unkept marked }
 {
-    index::put_row(q, j, index::UNSATISFIED, unkept);
-    index::put_row(q, j, index::STRUCK, marked);
-    index::put_row(q, j, index::PLAYING, words::minus(unkept, marked));
+    index::put_row(q, j, Row::Unsatisfied, unkept);
+    index::put_row(q, j, Row::Struck, marked);
+    index::put_row(q, j, Row::Playing, words::minus(unkept, marked));
 }
 
 // The clause c is that of number i, the last. The decisions are a and the struck set is k.
@@ -47,9 +48,9 @@ fn put(q: &mut [u64], i: usize, a: Assignment, k: u64, c: Clause)
     let x = tally::counts_of(a, c);
     q[131 * j + b] = x;
     index::enter(q, j, words::word_of(b as u32), clause::vars(c));
-    let open = index::row(q, j, index::UNSATISFIED)
+    let open = index::word(q, j, Row::Unsatisfied)
         | tally::mark(tally::is_unsatisfied(x), b as u32);
-    let marked = index::row(q, j, index::STRUCK) | tally::mark(clause::names(k, c), b as u32);
+    let marked = index::word(q, j, Row::Struck) | tally::mark(clause::names(k, c), b as u32);
     put_rows(q, j, open, marked);
 }
 
@@ -62,10 +63,8 @@ pub fn start(t: &[u64], q: &mut [u64], m: usize)
         decided: 0,
         trues: 0,
     };
-    let mut i = 0;
-    while i < m {
+    for i in 0..m {
         put(q, i, none, 0, table::clause_at(t, i));
-        i += 1;
     }
 }
 
@@ -86,15 +85,12 @@ fn shift(t: &[u64], q: &mut [u64], m: usize, j: usize, v: u32, d: Delta, named: 
     ensures { Shifted t.now q.old q.new j v d named result }
 {
     let mut open = 0;
-    let mut left = named;
-    while left != 0 {
-        let b = words::lowest_var(left);
+    for b in words::members(named) {
         let at = 131 * j + (b as usize);
         let lits = table::literals_at(t, 64 * j + (b as usize), d.sign);
         let x = tally::change(q[at], lits, v, d);
         q[at] = x;
-        open = open | tally::mark(tally::is_unsatisfied(x), b);
-        left = words::rest_of(left);
+        open |= tally::mark(tally::is_unsatisfied(x), b);
     }
     open
 }
@@ -104,10 +100,10 @@ fn change_block(t: &[u64], q: &mut [u64], m: usize, j: usize, v: u32, d: Delta)
     requires { Shiftable t.now q.old m j v d }
     ensures { Changed t.now q.old q.new j v d }
 {
-    let named = index::row(q, j, index::VARS + (v as usize));
+    let named = index::word(q, j, Row::Naming(v));
     let open = shift(t, q, m, j, v, d, named);
-    let others = words::minus(index::row(q, j, index::UNSATISFIED), named);
-    put_rows(q, j, others | open, index::row(q, j, index::STRUCK));
+    let others = words::minus(index::word(q, j, Row::Unsatisfied), named);
+    put_rows(q, j, others | open, index::word(q, j, Row::Struck));
 }
 
 // In all blocks.
@@ -115,10 +111,8 @@ fn change(t: &[u64], q: &mut [u64], m: usize, v: u32, d: Delta)
     requires { (tally_words m ≤ length q.old) × ((j : ℕ) → 64 * j < m → Shiftable t.now q.old m j v d) }
     ensures { (a b : Decisions) (k : ℕ) → Leads t.now m v d a b → Tallied t.now q.old m a k → Tallied t.now q.new m b k }
 {
-    let mut j = 0;
-    while 64 * j < m {
+    for j in 0..index::blocks(m) {
         change_block(t, q, m, j, v, d);
-        j += 1;
     }
 }
 
@@ -153,19 +147,17 @@ pub fn strike(q: &mut [u64], m: usize, w: u64) -> bool
     requires { (tally_words m ≤ length q.old) × Variable w }
     ensures { ((t : List ℕ) (a : Decisions) (k : ℕ) → Tallied t q.old m a k → Tallied t q.new m a (bit_or k w)) × Leaving q.old m w result }
 {
-    let u = index::VARS + (words::lowest_var(w) as usize);
+    let v = words::lowest_var(w);
     let mut gone = 0;
-    let mut j = 0;
-    while 64 * j < m {
-        let named = index::row(q, j, u);
-        gone = gone | (index::row(q, j, index::PLAYING) & named);
+    for j in 0..index::blocks(m) {
+        let named = index::word(q, j, Row::Naming(v));
+        gone |= index::word(q, j, Row::Playing) & named;
         put_rows(
             q,
             j,
-            index::row(q, j, index::UNSATISFIED),
-            index::row(q, j, index::STRUCK) | named,
+            index::word(q, j, Row::Unsatisfied),
+            index::word(q, j, Row::Struck) | named,
         );
-        j += 1;
     }
     gone != 0
 }
@@ -175,15 +167,13 @@ pub fn restrike(q: &mut [u64], m: usize, k: u64)
     requires { tally_words m ≤ length q.old }
     ensures { (t : List ℕ) (a : Decisions) (before : ℕ) → Tallied t q.old m a before → Tallied t q.new m a k }
 {
-    let mut j = 0;
-    while 64 * j < m {
+    for j in 0..index::blocks(m) {
         put_rows(
             q,
             j,
-            index::row(q, j, index::UNSATISFIED),
+            index::word(q, j, Row::Unsatisfied),
             index::naming(q, j, k),
         );
-        j += 1;
     }
 }
 

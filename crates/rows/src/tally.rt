@@ -24,7 +24,8 @@ pub struct Delta {
 pub fn counts_of(a: Assignment, c: Clause) -> u64
     ensures { result ≡ counts_of (assignment_of a) (clause_of c) }
 {
-    2 * (words::count_of(clause::keepers(a, c)) as u64) + 256 * (clause::undecided_in(a, c) as u64)
+    2 * u64::from(words::count_of(clause::keepers(a, c)))
+        + 256 * u64::from(clause::undecided_in(a, c))
 }
 
 // A variable is decided, with the value b: its literal is not undecided any more, and where it is the one of b a decision more satisfies the clause.
@@ -97,5 +98,5 @@ pub fn mark(on: bool, b: u32) -> u64
     requires { b < 64 }
     ensures { result ≡ masked on (2 ^ b) }
 {
-    (on as u64) << b
+    u64::from(on) << b
 }

@@ -8,9 +8,8 @@ use Rattle.steps.specs.Clause as clause
 use Rattle.steps.specs.State.{Ending, redundant}
 use Rattle.steps.specs.Tally.{tally_of as tally_at, tallies_at}
 use Rattle.steps.specs.Run.{no_decisions, outcome}
-use Rattle.answer.specs.Answer.{tally_of, end_of, tally_in}
+use Rattle.answer.specs.Answer.{tally_of, end_of, tally_in, Answer}
 use Rattle.answer.specs.declared.Tally.{Tally}
-use Rattle.answer.specs.declared.Answer.{Answer}
 use Rattle.answer.proofs.Ending.{tally_told}
 use Rattle.rows.specs.Rows.{from, clause_at, clauses, clauses_from, sequents, state_of}
 use Rattle.rows.specs.Tally.{word_of, tally_at as held_at, TalliedAt}

@@ -2,17 +2,18 @@
 use mathlib.Core.Path.{◌≡◌, ap, ap₂, sym, ◌∙◌, subst, subst⁻¹}
 use mathlib.Core.Bool.{not}
 use mathlib.Core.List.{List}
-use Prim.Native.Nat.{ℕ, ◌<◌}
+use Prim.Native.Nat.{ℕ, ◌^◌, ◌<◌}
 use native.Mathlib.Omega.{arith}
 use lib.Count.{ones}
 use lib.ListN.{length}
 use Rattle.words.specs.Words.{Within}
-use Rattle.steps.specs.Clause.{last, without, DSequent}
+use Rattle.steps.specs.Clause.{decide, last, without, DSequent}
 use Rattle.steps.specs.Clause as clause
 use Rattle.steps.specs.State.{State, undecided, redundant, recorded, counted}
 use Rattle.steps.specs.Merge.{merge}
 use Rattle.steps.specs.Search.{search}
 use Rattle.steps.specs.Shape.{Shape}
+use Rattle.steps.specs.Demands.{Free}
 use Rattle.steps.proofs.ShapeKeep.{last_recorded}
 use Rattle.steps.proofs.ShapeSides.{undecided_fewer, shape_second}
 use Rattle.rows.specs.Values.{assignment_of, env_of}
@@ -29,7 +30,7 @@ use Rattle.merge.specs.declared.Side.TheVariants as side
 use Rattle.rows.specs.declared.state.Counts.{Counts}
 use Rattle.search.proofs.Branching as branching
 use Rattle.search.proofs.Points.{up_point}
-use Rattle.search.proofs.Sides.{Turned, outcome, found, toward, rest, branched, fewer, falls, Opened, First, first_comes, ended_tallied, FirstUp, one_point}
+use Rattle.search.proofs.Sides.{Turned, outcome, found, toward, rest, branched, free, fewer, falls, Opened, First, first_comes, ended_tallied, FirstUp, one_point, up_tallied}
 
 -- the second side opens, with the decisions a₂, the k D-sequents that `without` left in rs₂, and the tallies in q₃. d is the first side's last D-sequent
 pub record Crossed {x : Turned} {o : Opened x} {f : First o} (u : FirstUp f) : Type 0 where
@@ -44,6 +45,29 @@ pub record Crossed {x : Turned} {o : Opened x} {f : First o} (u : FirstUp f) : T
   pub q₃ : List ℕ
   pub same_tallies : length q₃ ≡ length f.q₂
   pub tallied : Tallied f.t₁ q₃ u.one.clauses (toward x (not x.b)) (redundant (state_of f.t₁ f.rs₁ u.one))
+
+abbrev pub crossed_at : {x : Turned} {o : Opened x} {f : First o} {rs₂ : List ℕ} {k : ℕ} {q₃ : List ℕ} (u : FirstUp f) (a₂ : Assignment) (d : DSequent)
+    → length rs₂ ≡ length f.rs₁
+    → Kept f.rs₁ u.one.records x.w rs₂ k
+    → assignment_of a₂ ≡ toward x (not x.b)
+    → d ≡ last (sequents f.rs₁ u.one.records)
+    → length q₃ ≡ length f.q₂
+    → ((v : ℕ) (a : clause.Assignment) (i : ℕ) → x.w ≡ 2 ^ v → Free v a → Tallied f.t₁ f.q₂ u.one.clauses (decide a x.w x.b) i → Tallied f.t₁ q₃ u.one.clauses (decide a x.w (not x.b)) i)
+    → Crossed u
+crossed_at {x} {rs₂ = rs₂} {k} {q₃} u a₂ d same kept decided is same_tallies goes =
+    record {
+      rs₂ = rs₂;
+      k = k;
+      same = same;
+      kept = kept;
+      a₂ = a₂;
+      decided = decided;
+      d = d;
+      last_is = is;
+      q₃ = q₃;
+      same_tallies = same_tallies;
+      tallied = goes (branched x).var _ _ (branched x).word (free x) (up_tallied u);
+    }
 
 module _ {x : Turned} {o : Opened x} {f : First o} {u : FirstUp f} where
   -- the state in which the first side went back up, and the counts of the second side
@@ -126,15 +150,31 @@ pub record Second {x : Turned} {o : Opened x} {f : First o} {u : FirstUp f} (y :
       side_of t₂ rs₃ result
       ≡ search (env_of x.e) (ones (undecided (env_of x.e) (assignment_of y.a₂))) (assignment_of y.a₂) x.w (state_of f.t₁ y.rs₂ (crossing y))
 
+-- that result, where r is what the call of the second side answers
+abbrev pub second_at : {x : Turned} {o : Opened x} {f : First o} {u : FirstUp f} (y : Crossed u) (t₂ rs₃ q₄ : List ℕ) (r : Side)
+    → length t₂ ≡ length f.t₁
+    → length rs₃ ≡ length y.rs₂
+    → length q₄ ≡ length y.q₃
+    → (side_of t₂ rs₃ r
+    ≡ search (env_of x.e) (ones (undecided (env_of x.e) (assignment_of y.a₂))) (assignment_of y.a₂) x.w (state_of f.t₁ y.rs₂ (crossing y)))
+    × TalliedSide t₂ q₄ rs₃ y.a₂ r
+    → Second y
+second_at y t₂ rs₃ q₄ r same_table same_list same_tallies comes =
+    record {
+      t₂ = t₂;
+      rs₃ = rs₃;
+      result = r;
+      same_table = same_table;
+      same_list = same_list;
+      q₄ = q₄;
+      same_tallies = same_tallies;
+      tallied = comes.1;
+      comes = comes.0;
+    }
+
 module _ {x : Turned} {o : Opened x} {f : First o} {u : FirstUp f} {y : Crossed u} (z : Second y) where
-  -- the work tables have the lengths that they had at the point
-  pub tables_same : length z.t₂ ≡ length x.t
-  tables_same = z.same_table ∙ f.same_table
-
-  pub lists_same : length z.rs₃ ≡ length x.rs
-  lists_same = z.same_list ∙ y.same ∙ f.same_list ∙ x.same
-
-  pub tallies_same : length z.q₄ ≡ length x.q
+  -- the table of tallies has the length that it had at the point
+  tallies_same : length z.q₄ ≡ length x.q
   tallies_same = z.same_tallies ∙ y.same_tallies ∙ f.same_tallies ∙ o.same_tallies ∙ x.same_tallies
 
   -- the second side's result is the definition's

@@ -1,10 +1,10 @@
 -- The first side of a branching as the code goes through it, stage by stage, each with what is known there, and what each way out comes to. The points of both sides
 -- keep the shape of a point, the allowances and the room in the work tables (`steps`, `Points`); the ways out are the laws of `Branching`, with the number of undecided
 -- variables as the depth: either side decides one more.
-use mathlib.Core.Path.{◌≡◌, ap, sym, ◌∙◌, subst, subst⁻¹}
+use mathlib.Core.Path.{◌≡◌, refl, ap, sym, ◌∙◌, subst, subst⁻¹}
 use mathlib.Core.Bool.{Bool}
 use mathlib.Core.List.{List}
-use Prim.Native.Nat.{ℕ, suc, ◌+◌, ◌≤◌, ◌<◌}
+use Prim.Native.Nat.{ℕ, suc, ◌+◌, ◌^◌, ◌≤◌, ◌<◌}
 use native.Mathlib.Numerals.{add-one}
 use native.Mathlib.Omega.{arith}
 use lib.Count.{ones}
@@ -30,7 +30,11 @@ use Rattle.rows.specs.Index.{tally_words}
 use Rattle.rows.specs.Tally.{Tallied, TalliedAt, Changing}
 use Rattle.merge.specs.Sides.{side_of, TalliedSide}
 use Rattle.search.specs.Needs.{Point, Held}
+use Rattle.search.specs.Values.{halted}
 use Rattle.rows.specs.declared.clause.Assignment.{Assignment}
+use Rattle.enter.specs.Turns.{turn_of, counts_of}
+use Rattle.enter.specs.declared.Turn as code
+use Rattle.enter.specs.declared.Turn.TheVariants as turn
 use Rattle.merge.specs.declared.Ending.{Ending}
 use Rattle.merge.specs.declared.Side.{Side}
 use Rattle.merge.specs.declared.Side.TheVariants as side
@@ -40,6 +44,21 @@ use Rattle.search.proofs.Branching as branching
 use Rattle.search.proofs.Points.{up_point}
 use Rattle.rows.proofs.Tables.{as_many, sequents_length}
 use Rattle.merge.proofs.Joined.{branched_variable, branched_free}
+
+-- a turn that does not branch, r, comes to what the search from the point does
+pub halted_at : {t rs : List ℕ} {e : Env} {a : Assignment} {s : Counts} (v : ℕ) (rs' : List ℕ) (r : code.Turn) (o : StepSide)
+    → Point t rs e a s
+    → turn_of t rs' r ≡ enter (env_of e) (assignment_of a) v (state_of t rs s)
+    → ((w : ℕ) (b : Bool) (here : Counts) → r ≡ turn.Branch w b here → ⊥)
+    → o ≡ halted (assignment_of a) (turn_of t rs' r)
+    → o ≡ search (env_of e) (ones (undecided (env_of e) (assignment_of a))) (assignment_of a) v (state_of t rs s)
+halted_at {t} v rs' r o point goes never is =
+    is ∙ branching.search_halted _ _ _ _ _ point.none_empty (turn_of t rs' r) (sym goes) (other r never)
+  where
+    other : (r : code.Turn) → ((w : ℕ) (b : Bool) (here : Counts) → r ≡ turn.Branch w b here → ⊥) → (w : ℕ) (b : Bool) (s : State) → turn_of t rs' r ≡ branch w b s → ⊥
+    other (turn.Back here) never w b s e = let z : ◌≡◌ {A = ℕ} 0 1 = cc in omega arith
+    other (turn.Satisfiable here) never w b s e = let z : ◌≡◌ {A = ℕ} 0 1 = cc in omega arith
+    other (turn.Branch v y here) never w b s e = never v y here refl
 
 -- a point with n undecided variables, and the branching over w, b first, that `enter` found there. It left the list in rs' and the tallies in q'
 pub record Turned : Type 0 where
@@ -63,6 +82,41 @@ pub record Turned : Type 0 where
   pub here : Counts
   pub turn : branch w b (state_of t rs' here) ≡ enter (env_of e) (assignment_of a) v (state_of t rs s)
   pub tallied : TalliedAt t q' rs' (assignment_of a) here
+
+-- that point, where r is what `enter` answers
+abbrev pub turned_at : {t q rs : List ℕ} {e : Env} {a : Assignment} {k n : ℕ} {s : Counts} {r : code.Turn} {w : ℕ} {b : Bool} {here : Counts} (v : ℕ) (q' rs' : List ℕ)
+    → r ≡ turn.Branch w b here
+    → Point t rs e a s
+    → Held t q e a k s
+    → ones (undecided (env_of e) (assignment_of a)) ≡ n
+    → length q' ≡ length q
+    → length rs' ≡ length rs
+    → turn_of t rs' r ≡ enter (env_of e) (assignment_of a) v (state_of t rs s)
+    → TalliedAt t q' rs' (assignment_of a) (counts_of r)
+    → Turned
+turned_at {t} {q} {rs} {e} {a} {k} {n} {s} {r} {w} {b} {here} v q' rs' branches point held measure same_tallies same goes tallied =
+    record {
+      t = t;
+      rs = rs;
+      e = e;
+      a = a;
+      v = v;
+      s = s;
+      point = point;
+      n = n;
+      measure = measure;
+      rs' = rs';
+      same = same;
+      q = q;
+      places = held.places;
+      q' = q';
+      same_tallies = same_tallies;
+      w = w;
+      b = b;
+      here = here;
+      turn = sym (ap (turn_of t rs') branches) ∙ goes;
+      tallied = subst (λ (y : code.Turn). TalliedAt t q' rs' (assignment_of a) (counts_of y)) branches tallied;
+    }
 
 -- what the search from the point comes to
 abbrev pub outcome : Turned → StepSide
@@ -157,6 +211,25 @@ pub record Opened (x : Turned) : Type 0 where
   pub same_tallies : length q₁ ≡ length x.q'
   pub tallied : Tallied x.t q₁ x.here.clauses (toward x x.b) (redundant (found x))
 
+abbrev pub opened_at : {q₁ : List ℕ} (x : Turned) (a₁ : Assignment) (d : DSequent)
+    → x.here.branchings < x.e.allowance
+    → assignment_of a₁ ≡ toward x x.b
+    → d ≡ last (sequents x.rs' x.here.records)
+    → length q₁ ≡ length x.q'
+    → ((v : ℕ) (a : clause.Assignment) (k : ℕ) → x.w ≡ 2 ^ v → Free v a → Tallied x.t x.q' x.here.clauses a k → Tallied x.t q₁ x.here.clauses (decide a x.w x.b) k)
+    → Opened x
+opened_at {q₁} x a₁ d room decided is same goes =
+    record {
+      room = room;
+      a₁ = a₁;
+      decided = decided;
+      d = d;
+      last_is = is;
+      q₁ = q₁;
+      same_tallies = same;
+      tallied = goes (branched x).var _ _ (branched x).word (free x) x.tallied;
+    }
+
 -- the measure on the first side, and its point
 pub first_falls : {x : Turned} (o : Opened x) → ones (undecided (env_of x.e) (assignment_of o.a₁)) < x.n
 first_falls {x} o = falls x o.a₁ x.b o.decided
@@ -213,6 +286,28 @@ pub record First {x : Turned} (o : Opened x) : Type 0 where
   pub comes :
       side_of t₁ rs₁ result
       ≡ search (env_of x.e) (ones (undecided (env_of x.e) (assignment_of o.a₁))) (assignment_of o.a₁) 0 (state_of x.t x.rs' (opening x))
+
+-- that result, where r is what the call of the first side answers
+abbrev pub first_at : {x : Turned} (o : Opened x) (t₁ rs₁ q₂ : List ℕ) (r : Side)
+    → length t₁ ≡ length x.t
+    → length rs₁ ≡ length x.rs'
+    → length q₂ ≡ length o.q₁
+    → (side_of t₁ rs₁ r
+    ≡ search (env_of x.e) (ones (undecided (env_of x.e) (assignment_of o.a₁))) (assignment_of o.a₁) 0 (state_of x.t x.rs' (opening x)))
+    × TalliedSide t₁ q₂ rs₁ o.a₁ r
+    → First o
+first_at o t₁ rs₁ q₂ r same_table same_list same_tallies comes =
+    record {
+      t₁ = t₁;
+      rs₁ = rs₁;
+      result = r;
+      same_table = same_table;
+      same_list = same_list;
+      q₂ = q₂;
+      same_tallies = same_tallies;
+      tallied = comes.1;
+      comes = comes.0;
+    }
 
 -- the first side's result is the definition's
 pub first_comes :

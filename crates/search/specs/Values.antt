@@ -7,8 +7,7 @@ use Rattle.steps.specs.Enter as step
 use Rattle.steps.specs.Enter.{Turn.back, Turn.satisfiable, Turn.branch}
 use Rattle.steps.specs.Tally.{tallies_left}
 use Rattle.steps.specs.Run.{Outcome, no_decisions}
-use Rattle.answer.specs.Answer.{tally_in, of_outcome}
-use Rattle.answer.specs.declared.Answer.{Answer}
+use Rattle.answer.specs.Answer.{tally_in, of_outcome, Answer}
 use Rattle.answer.specs.declared.Tally.{Tally}
 use Rattle.rows.specs.Rows.{from, clauses_from, sequents}
 use Rattle.rows.specs.Tally.{word_of, tally_at}

@@ -30,6 +30,7 @@ pub fn not_branching(turn: Turn, a: Assignment) -> Side
 
 // The search from a point: what it comes to, and the work tables as it leaves them. v is the variable whose second side the point is, 0 where it is none. The tallies
 // are those of the struck set k at first, and in the end those of the place at which it goes up or ends.
+// e, a, v and s are the parameters of the search in `steps`, and so v is no Option. The tables are lent one by one, here and below, so that one that is only read says so.
 pub fn branch(
     t: &mut [u64],
     q: &mut [u64],
@@ -51,9 +52,8 @@ pub fn branch(
         return Side::Ended(Ending::OutOfBranchings, a, here);
     }
     let down = Counts {
-        clauses: here.clauses,
-        records: here.records,
         branchings: here.branchings + 1,
+        ..here
     };
     let struck = records::last(rs, here.records).redundant;
     tallies::decide(t, q, here.clauses, w, b);
@@ -64,9 +64,8 @@ pub fn branch(
     let last = records::last(rs, one.records);
     let kept = records::without(rs, one.records, w);
     let over = Counts {
-        clauses: one.clauses,
         records: kept,
-        branchings: one.branchings,
+        ..one
     };
     tallies::turn(t, q, one.clauses, w, b);
     let second = branch(

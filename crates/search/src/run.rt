@@ -5,6 +5,7 @@ ghost use Rattle.steps.specs.Search.{search};
 ghost use Rattle.steps.specs.Clause.{Assignment as Decisions};
 ghost use Rattle.steps.specs.State.{Side.ended as Ended};
 ghost use Rattle.answer.specs.Answer.{end_of};
+ghost use Rattle.answer.specs.Numbers.{by_number};
 ghost use Rattle.rows.specs.Values.{env_of};
 ghost use Rattle.rows.specs.Rows.{clauses, sequent_words, sequents, state_of};
 ghost use Rattle.merge.specs.Sides.{ending_of, side_of};
@@ -12,7 +13,7 @@ ghost use Rattle.search.specs.Values.{tally_from, Handed, LeftTallied};
 ghost use Rattle.search.specs.Needs.{Startable};
 
 use super::branch;
-use answer::{Answer, Tally};
+use answer::{Answer, Stop, Tally};
 use merge::{Ending, Side};
 use rows::clause::Assignment;
 use rows::records::DSequent;
@@ -23,27 +24,22 @@ use rows::{records, table, tallies};
 fn tally(s: Counts, m: usize) -> Tally
     ensures { result ≡ tally_from s m }
 {
-    let k = s.clauses;
-    let mut derived = 0;
-    if m < k {
-        derived = k - m;
-    }
     Tally {
         branchings: s.branchings,
-        derived: derived,
+        derived: s.clauses.saturating_sub(m),
         records: s.records,
     }
 }
 
-// A verdict, or the number of a stop.
+// A verdict, or a stop.
 fn told(ending: Ending, tally: Tally) -> Answer
-    ensures { result ≡ end_of (ending_of ending) tally }
+    ensures { by_number result ≡ end_of (ending_of ending) tally }
 {
     match ending {
         Ending::Can => Answer::Can(tally),
         Ending::Cannot => Answer::Cannot(tally),
-        Ending::OutOfBranchings => Answer::Stopped(answer::STOP_BRANCHINGS, tally),
-        Ending::OutOfClauses => Answer::Stopped(answer::STOP_PLACES, tally),
+        Ending::OutOfBranchings => Answer::Stopped(Stop::Branchings, tally),
+        Ending::OutOfClauses => Answer::Stopped(Stop::Places, tally),
     }
 }
 
@@ -70,24 +66,19 @@ fn everything(rs: &mut [u64], vars: u32) -> usize
 // The end of a run that a verdict or a stop ended: "cannot" hands out step 1's list.
 fn ended(rs: &mut [u64], vars: u32, m: usize, ending: Ending, s: Counts) -> Answer
     requires { (vars ≤ 64) × (sequent_words vars ≤ length rs.old) }
-    ensures { (t : List ℕ) (a : Decisions) → Handed t rs.new m result (Finish vars m (Ended (ending_of ending) a (state_of t rs.old s))) }
+    ensures { (t : List ℕ) (a : Decisions) → Handed t rs.new m (by_number result) (Finish vars m (Ended (ending_of ending) a (state_of t rs.old s))) }
 {
     let Ending::Cannot = ending else {
         return told(ending, tally(s, m));
     };
     let k = everything(rs, vars);
-    let all = Counts {
-        clauses: s.clauses,
-        records: k,
-        branchings: s.branchings,
-    };
-    told(ending, tally(all, m))
+    told(ending, tally(Counts { records: k, ..s }, m))
 }
 
 // The end of a run. Back up from the starting point means "can".
 fn finish(rs: &mut [u64], vars: u32, m: usize, side: Side) -> Answer
     requires { (vars ≤ 64) × (sequent_words vars ≤ length rs.old) }
-    ensures { (t : List ℕ) → Handed t rs.new m result (Finish vars m (side_of t rs.old side)) }
+    ensures { (t : List ℕ) → Handed t rs.new m (by_number result) (Finish vars m (side_of t rs.old side)) }
 {
     match side {
         Side::Up(s) => told(Ending::Can, tally(s, m)),
@@ -99,7 +90,7 @@ fn finish(rs: &mut [u64], vars: u32, m: usize, side: Side) -> Answer
 // it can only be one that step 7 has just derived, which ends the run there.
 pub fn run(t: &mut [u64], q: &mut [u64], rs: &mut [u64], e: Env, m: usize) -> Answer
     requires { Startable t.old q.old rs.old e m }
-    ensures { Handed t.new rs.new m result (Finish e.vars m (search (env_of e) e.vars no_decisions 0 (start (clauses t.old m)))) × LeftTallied q.new (search (env_of e) e.vars no_decisions 0 (start (clauses t.old m))) }
+    ensures { Handed t.new rs.new m (by_number result) (Finish e.vars m (search (env_of e) e.vars no_decisions 0 (start (clauses t.old m)))) × LeftTallied q.new (search (env_of e) e.vars no_decisions 0 (start (clauses t.old m))) }
 {
     let none = Assignment {
         decided: 0,

@@ -1,8 +1,8 @@
 -- The loop over the orders. After i orders the first i answers are written, and what the orders that are left make of the tables is what all make of them as they
 -- were lent.
-use mathlib.Core.Path.{◌≡◌, refl, sym, ap, ◌∙◌}
+use mathlib.Core.Path.{◌≡◌, sym, ap, ◌∙◌}
 use mathlib.Core.List.{List, [], ◌∷◌, ◌++◌, append-nil}
-use Prim.Native.Nat.{ℕ, suc, ◌+◌, ◌-◌, ◌≤◌, ◌<◌}
+use Prim.Native.Nat.{ℕ, suc, ◌+◌, ◌-◌, ◌<◌}
 use native.Mathlib.Numerals.{add-one}
 use native.Mathlib.Omega.{arith}
 use lib.ListN.{length, set, drop_of_length-le}
@@ -10,7 +10,7 @@ use Rattle.rows.specs.Rows.{from}
 use Rattle.rows.proofs.Lists.{from_next, from_length}
 use Rattle.order.specs.Order.{Order}
 use Rattle.contract.specs.Filled.{Tables, lengths, written}
-use Rattle.checker.proofs.Written.{written_more, written_length}
+use Rattle.checker.proofs.Written.{written_more}
 use Rattle.morning.specs.Morning.{order_at, word_part, fill_part, fill_parts, served}
 use Rattle.serving.specs.Promises.{ServedPart}
 use Rattle.morning.proofs.Serving.{fill_lengths, same_word}
@@ -25,21 +25,9 @@ pub record Going (bytes words : List ℕ) (allowance k i : ℕ) (lent-answers : 
   pub same_lengths : lengths t ≡ lengths before
 
 module _ (bytes words : List ℕ) (allowance k : ℕ) (lent-answers : List ℕ) (before : Tables) (as_many : length lent-answers ≡ k) where
-  pub going_start : Going bytes words allowance k 0 lent-answers before lent-answers before
-  going_start =
-      record {
-        written_answers = refl;
-        left_to_do = let e : k - 0 ≡ k = omega arith in ap (λ (m : ℕ). fill_parts bytes words allowance k 0 m before) e;
-        same_lengths = refl;
-      }
-
   module _ (i : ℕ) (answers : List ℕ) (t : Tables) (going : Going bytes words allowance k i lent-answers before answers t) where
     count : length (from (words_of bytes words allowance k before) 0 i) ≡ i
     count = from_length (words_of bytes words allowance k before) 0 i
-
-    -- there are as many answers as before
-    pub answers_length : i ≤ k → length answers ≡ k
-    answers_length h = ap length going.written_answers ∙ written_length (from (words_of bytes words allowance k before) 0 i) lent-answers (omega (arith, count, as_many, h)) ∙ as_many
 
     pub going_next :
         (o : Order) (w : ℕ) (t' : Tables) → i < k → o ≡ order_at words i → ServedPart bytes o allowance k i t w t' →

@@ -1,19 +1,18 @@
 -- The places that a part has. Lent, they are the part; and what a check leaves there, put back, is in the part.
 use mathlib.Core.Path.{◌≡◌, refl, ap, ◌∙◌}
 use mathlib.Core.List.{List, ◌++◌}
-use Prim.Native.Nat.{ℕ, ◌+◌, ◌-◌, ◌<◌}
+use Prim.Native.Nat.{ℕ, ◌+◌, ◌-◌}
 use native.Mathlib.Omega.{arith}
 use lib.ListN.{length, take, drop}
 use lib.Seq.{drop-drop}
 use Rattle.order.specs.Order.{Order}
 use Rattle.answer.specs.Packed.{packed}
-use Rattle.answer.specs.declared.Answer.{Answer}
+use Rattle.answer.specs.Answer.{Answer}
 use Rattle.contract.specs.Check.{check}
 use Rattle.contract.specs.Filled.{Tables, lent, lengths, answer_of, filled, Checked}
 use Rattle.contract.proofs.Filling.{tables_equal}
 use Rattle.morning.specs.Parts.{share, end, part, with_part, part_of, with_part_of}
 use Rattle.morning.specs.Morning.{fill_part}
-use Rattle.morning.proofs.Serving.{fill_lengths}
 use Rattle.serving.specs.Promises.{PartIn, ServedPart}
 
 module _ (k i : ℕ) (t : List ℕ) {from to : ℕ} (p : PartIn k i (length t) from to) where
@@ -70,8 +69,3 @@ served_part bytes o allowance k i t a w {cut} {left} {whole} checked word same p
       word = word ∙ ap packed checked.answer ∙ ap (λ (l : Tables). packed (answer_of (check bytes o allowance (lengths l)))) same;
       tables = put ∙ ap (with_part_of k i t) (checked.tables ∙ ap (λ (l : Tables). filled (check bytes o allowance (lengths l)) l) same);
     }
-
--- and no length has changed
-pub served_lengths :
-    {bytes : List ℕ} {o : Order} {allowance k i w : ℕ} {t whole : Tables} → i < k → ServedPart bytes o allowance k i t w whole → lengths whole ≡ lengths t
-served_lengths {bytes} {o} {allowance} {k} {i} {w} {t} {whole} h p = ap lengths p.tables ∙ fill_lengths bytes o allowance k i h t

@@ -1,8 +1,15 @@
--- What the functions under the entry point promise.
-use Rattle.std.specs.Prelude.{◌≡◌, List, ℕ, ◌+◌, ◌*◌, ◌/◌, ◌≤◌}
+-- What the functions of this crate promise.
+use Rattle.std.specs.Prelude.{◌≡◌, List, ℕ, ◌+◌, ◌*◌, ◌/◌, ◌≤◌, Result, Ok, Err}
+use Rattle.answer.specs.Numbers.{refusal_number}
+use Rattle.answer.specs.declared.refusal.Refusal.{Refusal}
 use Rattle.order.specs.Order.{Order}
 use Rattle.contract.specs.Filled.{Tables}
 use Rattle.morning.specs.Morning.{word_part, fill_part}
+
+-- 0, or the number of the refusal
+abbrev pub number_of : Result (Unit {0}) Refusal → ℕ
+number_of (Ok u) = 0
+number_of (Err r) = refusal_number r
 
 -- part i of k has these places, in a table of so many
 pub record PartIn (k i places from to : ℕ) : Type 0 where

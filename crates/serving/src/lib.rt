@@ -2,12 +2,17 @@
 #![tactic(auto)]
 
 ghost use Rattle.std.specs.Prelude.{◌≡◌, ◌+◌, ◌*◌, ◌≤◌, ◌<◌, length};
+ghost use Rattle.answer.specs.Numbers.{by_number};
 ghost use Rattle.order.specs.Values.{order_of};
-ghost use Rattle.contract.specs.Filled.{lent};
+ghost use Rattle.contract.specs.Filled.{lent, Checked};
+ghost use Rattle.checker.specs.Lent.{tables_of, SameReferences};
 ghost use Rattle.morning.specs.Morning.{order_at, orders_fault, Serves};
-ghost use Rattle.serving.specs.Promises.{PartIn, ServedPart};
+ghost use Rattle.serving.specs.Promises.{number_of, PartIn, ServedPart};
 
+use answer::{Answer, Refusal};
+use checker::Tables;
 use order::Order;
+use std::ops::Range;
 
 // The most orders of a morning.
 const MAX_ORDERS: usize = 16;
@@ -16,47 +21,34 @@ const MAX_ORDERS: usize = 16;
 const ORDER_WORDS: usize = 3;
 
 // Serves a morning: `orders` has three words an order, and `answers` a place for the word of each order's answer (crate `answer`, `packed`). Each of the
-// five tables is cut by its own length into as many equal parts as there are orders, from the first place on. Returns 0, or 13 where the number of orders is
+// five tables is cut by its own length into as many equal parts as there are orders, from the first place on. It is refused where the number of orders is
 // not 1 to 16 or the words are not three an order; then nothing is changed.
 pub fn morning(
     book: &[u8],
     orders: &[u64],
     allowance: u32,
     answers: &mut [u64],
-    pos: &mut [u64],
-    neg: &mut [u64],
-    decided: &mut [u64],
-    trues: &mut [u64],
-    redundant: &mut [u64],
-) -> u32
-    ensures { Serves book.now orders.now allowance answers.old (lent pos.old neg.old decided.old trues.old redundant.old) result answers.new (lent pos.new neg.new decided.new trues.new redundant.new) }
+    tables: &mut Tables<'_>,
+) -> Result<(), Refusal>
+    ensures same_references { SameReferences tables.old tables.new }
+    ensures serves { Serves book.now orders.now allowance answers.old (tables_of tables.old) (number_of result) answers.new (tables_of tables.new) }
 {
     let k = answers.len();
     if fault(orders.len(), k) {
-        return 13;
+        return Err(Refusal::NumberOfOrders);
     }
-    let mut i = 0;
-    while i < k {
-        let o = order_at(orders, i);
-        answers[i] = serve(
-            book, o, allowance, k, i, pos, neg, decided, trues, redundant,
-        );
-        i += 1;
+    for (i, answer) in answers.iter_mut().enumerate() {
+        *answer = serve(book, order_at(orders, i), allowance, k, i, tables);
     }
-    0
+    Ok(())
 }
 
-// Refusal 13, judged on the numbers of words and of answers.
+// The refusal, judged on the numbers of words and of answers.
+#[tactic(auto, unfolding(morning::specs::Morning::orders_fault))]
 fn fault(words: usize, answers: usize) -> bool
     ensures { result ≡ orders_fault words answers }
 {
-    if answers < 1 {
-        return true;
-    }
-    if MAX_ORDERS < answers {
-        return true;
-    }
-    words != ORDER_WORDS * answers
+    answers < 1 || MAX_ORDERS < answers || words != ORDER_WORDS * answers
 }
 
 // Order i.
@@ -72,66 +64,60 @@ fn order_at(orders: &[u64], i: usize) -> Order
     }
 }
 
-// The places of a part of a table, from the first to the one after the last.
-#[derive(Clone, Copy)]
-struct Places {
-    from: usize,
-    to: usize,
-}
-
-// Part i of k, in a table of so many places.
-fn part(k: usize, i: usize, places: usize) -> Places
+// The places of part i of k, in a table of so many places.
+#[tactic(auto, using(morning::proofs::Parts::places_fit))]
+fn part(k: usize, i: usize, places: usize) -> Range<usize>
     requires { i < k }
-    ensures { PartIn k i places result.from result.to }
+    ensures { PartIn k i places result.start result.end }
 {
     let share = places / k;
     let from = i * share;
-    Places {
-        from,
-        to: from + share,
-    }
+    from..from + share
 }
 
 // Checks order i of k with its part of each table.
-fn serve(
+fn serve(book: &[u8], o: Order, allowance: u32, k: usize, i: usize, tables: &mut Tables<'_>) -> u64
+    requires { i < k }
+    ensures same_references { SameReferences tables.old tables.new }
+    ensures served { ServedPart book.now (order_of o) allowance k i (tables_of tables.old) result (tables_of tables.new) }
+{
+    let in_pos = part(k, i, tables.pos.len());
+    let in_neg = part(k, i, tables.neg.len());
+    let in_decided = part(k, i, tables.decided.len());
+    let in_trues = part(k, i, tables.trues.len());
+    let in_redundant = part(k, i, tables.redundant.len());
+    let found = check_on(
+        book,
+        o,
+        allowance,
+        &mut tables.pos[in_pos],
+        &mut tables.neg[in_neg],
+        &mut tables.decided[in_decided],
+        &mut tables.trues[in_trues],
+        &mut tables.redundant[in_redundant],
+    );
+    answer::word_of(found)
+}
+
+// Checks an order on tables that are lent as five slices: of a struct that borrows parts of slices the proof knows only their lengths afterwards.
+fn check_on(
     book: &[u8],
     o: Order,
     allowance: u32,
-    k: usize,
-    i: usize,
     pos: &mut [u64],
     neg: &mut [u64],
     decided: &mut [u64],
     trues: &mut [u64],
     redundant: &mut [u64],
-) -> u64
-    requires { i < k }
-    ensures { ServedPart book.now (order_of o) allowance k i (lent pos.old neg.old decided.old trues.old redundant.old) result (lent pos.new neg.new decided.new trues.new redundant.new) }
+) -> Answer
+    ensures { Checked book.now (order_of o) allowance (lent pos.old neg.old decided.old trues.old redundant.old) (by_number result) (lent pos.new neg.new decided.new trues.new redundant.new) }
 {
-    let in_pos = part(k, i, pos.len());
-    let in_neg = part(k, i, neg.len());
-    let in_decided = part(k, i, decided.len());
-    let in_trues = part(k, i, trues.len());
-    let in_redundant = part(k, i, redundant.len());
-    let pos_from = in_pos.from;
-    let pos_to = in_pos.to;
-    let neg_from = in_neg.from;
-    let neg_to = in_neg.to;
-    let decided_from = in_decided.from;
-    let decided_to = in_decided.to;
-    let trues_from = in_trues.from;
-    let trues_to = in_trues.to;
-    let redundant_from = in_redundant.from;
-    let redundant_to = in_redundant.to;
-    let found = checker::check(
-        book,
-        o,
-        allowance,
-        &mut pos[pos_from..pos_to],
-        &mut neg[neg_from..neg_to],
-        &mut decided[decided_from..decided_to],
-        &mut trues[trues_from..trues_to],
-        &mut redundant[redundant_from..redundant_to],
-    );
-    answer::word_of(found)
+    let mut tables = Tables {
+        pos,
+        neg,
+        decided,
+        trues,
+        redundant,
+    };
+    checker::check(book, o, allowance, &mut tables)
 }

@@ -8,7 +8,7 @@ use native.Mathlib.Nat.{mul-suc, div-add-mod'}
 use native.Mathlib.Omega.{arith}
 use lib.ListN.{length}
 use Rattle.words.proofs.Truth.{both_ways, clash}
-use Rattle.answer.specs.declared.Answer.TheVariants.{Refused as CheckRefused}
+use Rattle.answer.specs.Answer.{Answer.Refused as CheckRefused}
 use Rattle.contract.specs.Filled.{lengths}
 use Rattle.contract.specs.Demands.{Named}
 use Rattle.contract.proofs.Demands as contract
@@ -17,7 +17,7 @@ use Rattle.sites.specs.Terminal.{opened, allowance_before, Turn, call_with, call
 use Rattle.sites.specs.Handed.{terminal_of}
 use Rattle.sites.specs.Demands.{OneToEight, OpenedFor, OpenedOrRefused, used_by, RunOfCalls, OneByOne, NoneToCome, AfterTheLast, CalledWith, AnyTerminal}
 use Rattle.sites.specs.declared.Terminal.{Terminal}
-use Rattle.sites.specs.declared.Opening.TheVariants.{Refused, Opened}
+use Rattle.sites.specs.Values.{Opening.Refused, Opening.Opened}
 use Rattle.sites.proofs.Serving.{passing, passes, turned, used_within, served_with, sites_served}
 
 -- ---- opening

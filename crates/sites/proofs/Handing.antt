@@ -2,7 +2,6 @@
 -- definition's.
 use mathlib.Core.Path.{◌≡◌, refl, sym, ap, ap₂, subst, subst⁻¹, ◌∙◌}
 use mathlib.Core.Bool.{Bool, true, false}
-use mathlib.Core.Logic.{◌≢◌}
 use mathlib.Core.List.{List, [], ◌∷◌, map}
 use Prim.Native.Nat.{ℕ, suc, ◌-◌, ◌/◌, ◌^◌, ◌≤◌, ◌<◌}
 use native.Mathlib.Omega.{arith}
@@ -10,20 +9,17 @@ use lib.ListN.{length}
 use Rattle.words.proofs.Truth.{both_ways}
 use Rattle.order.specs.Order.{Order}
 use Rattle.answer.specs.Packed.{packed, unpacked, Packable}
-use Rattle.answer.specs.declared.Answer.{Answer}
-use Rattle.answer.specs.declared.Answer.TheVariants.{Refused as CheckRefused}
+use Rattle.answer.specs.Answer.{Answer, Answer.Refused as CheckRefused}
 use Rattle.answer.proofs.Demands.{inverse}
 use Rattle.contract.specs.Filled.{Tables, lengths, Checked}
 use Rattle.contract.proofs.Asked.{branchings_within}
 use Rattle.contract.proofs.Demands as contract
 use Rattle.sites.specs.Sites.{Site, Reply, sites_fault, used_in, reply_to, Replies.served, sites}
 use Rattle.sites.specs.Terminal.{allowance_before, Turn, call, calls, terminal_after, Opens, Serves}
-use Rattle.sites.specs.Handed.{terminal_of, opening_number, places_in, HandsOpening, HandsSite}
+use Rattle.sites.specs.Handed.{terminal_of, opening_number, places_in, HandsSite}
 use Rattle.sites.specs.Demands.{OneToEight, TakesOpening, TakingOpening, taken_from, TakingSites, TakingAll}
 use Rattle.sites.specs.declared.Terminal.{Terminal}
-use Rattle.sites.specs.declared.Opening.{Opening}
-use Rattle.sites.specs.declared.Opening.TheVariants.{Refused, Opened}
-use Rattle.sites.specs.declared.Served.{Served}
+use Rattle.sites.specs.Values.{Opening.Refused, Opening.Opened, Served}
 use Rattle.sites.proofs.Serving.{passing, passes}
 use Rattle.sites.proofs.Calling.{opened_turned, opened_for, none_to_come, next_called, by_ending, call_spent, run_of_calls}
 
@@ -42,11 +38,6 @@ opens_refused k whole n = record { opening = sym (opened_turned k whole n) }
 
 pub opens_opened : (k whole : ℕ) → OneToEight k → Opens k whole (Opened (terminal_of whole (whole / k) k))
 opens_opened k whole m = record { opening = sym (opened_for k whole m) }
-
--- and what is handed over of them
-pub hands_opening :
-    (k whole : ℕ) (r x : Opening) (places : Terminal) → Opens k whole r → r ≡ x → HandsOpening k whole places (opening_number x) (places_in places x)
-hands_opening k whole r x places h e = let is = sym e ∙ h.opening in record { number = ap opening_number is; terminal = ap (places_in places) is }
 
 -- ---- a call
 
@@ -71,27 +62,26 @@ module _ (bytes : List ℕ) (t : Terminal) (o : Order) (before : Tables) where
   serves_none e r f = record { turn = ap (λ (x : Served). record { returned = x; tables = before }) f ∙ sym (none_to_come bytes t (record { order = o; tables = before }) e) }
 
   -- the next site is checked with its allowance
-  module _ (some_left : t.sites ≢ 0) (allowance : ℕ) (is : allowance ≡ allowance_before t (t.sites - 1)) (a : Answer) (after : Tables) (c : Checked bytes o allowance before a after) where
+  module _ (later : ℕ) (next : t.sites ≡ suc later) (allowance : ℕ) (is : allowance ≡ allowance_before t later) (a : Answer) (after : Tables) (c : Checked bytes o allowance before a after) where
     pub no_more : used_in a ≤ t.left
     no_more =
         let few : used_in a ≤ allowance = subst⁻¹ (λ (x : Answer). used_in x ≤ allowance) c.answer (branchings_within bytes o allowance (lengths before)) in
         omega (arith, few, is)
 
     pub serves_next :
-        (r : Served) → r ≡ record { answer = a; terminal = record { left = t.left - used_in a; part = t.part; sites = t.sites - 1 } } →
+        (r : Served) → r ≡ record { answer = a; terminal = record { left = t.left - used_in a; part = t.part; sites = later } } →
         Serves bytes t o before r after
     unfolding reply_to
     serves_next r f =
-        let next : t.sites ≡ suc (t.sites - 1) = omega (arith, some_left) in
         let x : Answer → Tables → Turn =
-        λ (b : Answer) (u : Tables). record { returned = record { answer = b; terminal = record { left = t.left - used_in b; part = t.part; sites = t.sites - 1 } }; tables = u }
+        λ (b : Answer) (u : Tables). record { returned = record { answer = b; terminal = record { left = t.left - used_in b; part = t.part; sites = later } }; tables = u }
         in
         let c' = subst (λ (n : ℕ). Checked bytes o n before a after) is c in
         record {
           turn =
               ap (λ (y : Served). record { returned = y; tables = after }) f
               ∙ ap₂ x c'.answer c'.tables
-              ∙ sym (next_called bytes t (record { order = o; tables = before }) (t.sites - 1) next);
+              ∙ sym (next_called bytes t (record { order = o; tables = before }) later next);
         }
 
   module _ (r : Served) (after : Tables) (h : Serves bytes t o before r after) where

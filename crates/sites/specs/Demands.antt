@@ -10,11 +10,9 @@ use Rattle.order.specs.Order.{Order}
 use Rattle.order.specs.Demands.{order}
 use Rattle.book.specs.Bytes.{vars_in, encode}
 use Rattle.book.specs.Conditions.{NoRow}
-use Rattle.answer.specs.Answer.{tally_in}
+use Rattle.answer.specs.Answer.{tally_in, Answer, Answer.Can, Answer.Cannot, Answer.Refused as CheckRefused, Answer.Stopped}
 use Rattle.answer.specs.Packed.{unpacked}
 use Rattle.answer.specs.declared.Tally.{Tally}
-use Rattle.answer.specs.declared.Answer.{Answer}
-use Rattle.answer.specs.declared.Answer.TheVariants.{Can, Cannot, Refused as CheckRefused, Stopped}
 use Rattle.contract.specs.Filled.{lent, lengths, Checked}
 use Rattle.contract.specs.Demands.{Permitted, check_conditions, first_places, Fills, Tells, Settled, IsVerdict}
 use Rattle.contract.specs.Asked.{Demanded, RefusedFirst}
@@ -22,7 +20,7 @@ use Rattle.sites.specs.Sites.{Site, Reply, used_in, Replies.turned_away, Replies
 use Rattle.sites.specs.Terminal.{opened, Turn, call, calls, terminal_after}
 use Rattle.sites.specs.Handed.{terminal_of, HandsOpening, Handed, HandedInTurn}
 use Rattle.sites.specs.declared.Terminal.{Terminal}
-use Rattle.sites.specs.declared.Opening.TheVariants.{Refused, Opened}
+use Rattle.sites.specs.Values.{Opening.Refused, Opening.Opened}
 
 -- ---- 21
 

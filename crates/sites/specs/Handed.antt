@@ -6,8 +6,7 @@ use Rattle.contract.specs.Filled.{Tables}
 use Rattle.sites.specs.Sites.{Site}
 use Rattle.sites.specs.Terminal.{opened, call}
 use Rattle.sites.specs.declared.Terminal.{Terminal}
-use Rattle.sites.specs.declared.Opening.{Opening}
-use Rattle.sites.specs.declared.Opening.TheVariants.{Refused, Opened}
+use Rattle.sites.specs.Values.{Opening, Opening.Refused, Opening.Opened}
 
 -- three numbers as a terminal
 abbrev pub terminal_of : ℕ → ℕ → ℕ → Terminal

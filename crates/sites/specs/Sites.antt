@@ -1,8 +1,7 @@
 -- Up to eight sites share one allowance: each has its part of it and what all before it left unused. Each is checked by itself, with tables of its own.
 use Rattle.std.specs.Prelude.{Bool, true, false, ◌||◌, List, [], ◌∷◌, ℕ, zero, suc, ◌+◌, ◌-◌, ◌/◌, ◌%◌, ltb, length}
 use Rattle.order.specs.Order.{Order}
-use Rattle.answer.specs.Answer.{tally_in}
-use Rattle.answer.specs.declared.Answer.{Answer}
+use Rattle.answer.specs.Answer.{tally_in, Answer}
 use Rattle.contract.specs.Check.{check}
 use Rattle.contract.specs.Filled.{Tables, lengths, answer_of, filled}
 

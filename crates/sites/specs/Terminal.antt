@@ -1,13 +1,11 @@
 -- The terminal: sites are served one a call, and what the calls need of one another is handed on by value.
 use Rattle.std.specs.Prelude.{◌≡◌, true, false, List, [], ◌∷◌, ℕ, zero, suc, ◌-◌, ◌*◌, ◌/◌}
 use Rattle.order.specs.Order.{Order}
-use Rattle.answer.specs.declared.Answer.TheVariants.{Refused as CheckRefused}
+use Rattle.answer.specs.Answer.{Answer.Refused as CheckRefused}
 use Rattle.contract.specs.Filled.{Tables}
 use Rattle.sites.specs.Sites.{Site, Reply, sites_fault, used_in, reply_to}
 use Rattle.sites.specs.declared.Terminal.{Terminal}
-use Rattle.sites.specs.declared.Opening.{Opening}
-use Rattle.sites.specs.declared.Opening.TheVariants.{Refused, Opened}
-use Rattle.sites.specs.declared.Served.{Served}
+use Rattle.sites.specs.Values.{Opening, Opening.Refused, Opening.Opened, Served}
 
 -- a terminal for k sites and the whole allowance
 unfoldable pub opened : ℕ → ℕ → Opening

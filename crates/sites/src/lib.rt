@@ -11,13 +11,6 @@ pub struct Terminal {
     pub sites: u32,
 }
 
-// A refusal by its number, or a terminal for the first site.
-#[derive(Clone, Copy)]
-pub enum Opening {
-    Refused(u32),
-    Opened(Terminal),
-}
-
 // The answer to a site, and the terminal for the next.
 #[derive(Clone, Copy)]
 pub struct Served {

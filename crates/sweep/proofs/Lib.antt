@@ -5,3 +5,4 @@ pub mod Walks
 pub mod Choosing
 pub mod Points
 pub mod Strikes
+mod Turns

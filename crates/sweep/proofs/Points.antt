@@ -1,18 +1,17 @@
 -- What a point that is ready gives: its list fits the work table, with one D-sequent more where a variable is live, it is ready still after a change of its
--- list, and the live variables are as the code computes them. For each D-sequent strikes one variable more.
-use mathlib.Core.Path.{◌≡◌, sym, ap, ap₂, ◌∙◌, subst⁻¹}
+-- list. For each D-sequent strikes one variable more.
+use mathlib.Core.Path.{◌≡◌, sym, ap, ◌∙◌, subst⁻¹}
 use mathlib.Core.Bool.{false}
 use mathlib.Core.List.{List}
 use Prim.Native.Nat.{ℕ, ◌+◌, ◌≤◌, ◌<◌}
 use native.Mathlib.Omega.{arith}
 use borrow.Author.Tests.{ltb-true}
 use lib.ListN.{length}
-use Rattle.words.specs.Words.{is_zero, minus}
+use Rattle.words.specs.Words.{is_zero}
 use Rattle.words.proofs.Membership.{has_first_vars}
 use Rattle.words.proofs.Sets.{some_member}
 use Rattle.steps.specs.Clause as clause
 use Rattle.steps.specs.Clause.{DSequent, last}
-use Rattle.steps.specs.State as state
 use Rattle.steps.specs.State.{State, undecided, redundant, live}
 use Rattle.steps.specs.Shape.{Shape, OneOf}
 use Rattle.steps.proofs.ShapeKeep.{records_at_most_n, records_below_n, undecided_within, live_undecided, live_not_redundant, another, last_recorded}
@@ -66,15 +65,6 @@ still_ready {t} {rs} {rs'} {e} {a} {s} {s'} x p same is table shape =
       room = omega (arith, same, p.room);
       shape = subst⁻¹ (λ (y : State). Shape (env_of e) (assignment_of a) y) is shape;
     }
-
--- the live variables x, from the undecided ones u and the last D-sequent d
-pub live_is : (e : state.Env) (a : clause.Assignment) (s : State) (x u : ℕ) (d : DSequent)
-    → x ≡ minus u d.redundant
-    → u ≡ undecided e a
-    → d ≡ last s.records
-    → x ≡ live e a s
-unfolding live
-live_is e a s x u d is p q = is ∙ ap₂ (λ (y : ℕ) (z : DSequent). minus y z.redundant) p q
 
 -- a live variable is one of the 64
 pub live_variable : {t rs : List ℕ} {e : Env} {a : Assignment} {s : Counts} {w : ℕ} → Ready t rs e a s → OneOf w (live (env_of e) (assignment_of a) (state_of t rs s)) → Variable w

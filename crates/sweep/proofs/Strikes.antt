@@ -1,7 +1,8 @@
 -- The sweep, one strike at a time. A variable that is found is live, so a strike leaves fewer live variables.
 -- So n times are enough: once as many were made as there are live variables nothing is found, and more change nothing.
-use mathlib.Core.Path.{◌≡◌, refl, sym, ap, ◌∙◌}
+use mathlib.Core.Path.{◌≡◌, refl, sym, ap, ap₂, ◌∙◌}
 use mathlib.Core.Bool.{false}
+use mathlib.Core.Option.{Option}
 use Prim.Native.Nat.{ℕ, zero, suc, ◌^◌, ◌≤◌, ◌<◌}
 use native.Mathlib.Omega.{arith}
 use lib.Bits.{bit_or}
@@ -13,8 +14,9 @@ use Rattle.words.proofs.Sets.{is_zero_lem, member_nonzero, within_refl, within_m
 use Rattle.steps.specs.Clause.{Assignment, DSequent, last}
 use Rattle.steps.specs.State.{Env, State, redundant, live, append}
 use Rattle.steps.specs.Shape.{Shape, OneOf}
-use Rattle.steps.specs.Notes.{notes, Literal, gather}
+use Rattle.steps.specs.Notes.{Notes, notes, Literal, choice, gather, found_by}
 use Rattle.steps.specs.Sweep.{Found, Found.nothing, Found.variable, first_monotone, strike, sweep}
+use Rattle.steps.proofs.Notes.{same_choice}
 use Rattle.steps.proofs.ShapeKeep.{undecided_within, live_undecided, append_redundant}
 use Rattle.steps.proofs.ShapeSweep.{first_monotone_is, monotone_within, shape_strike}
 use Rattle.steps.proofs.Sweeping.{struck_live}
@@ -22,6 +24,15 @@ use Rattle.steps.proofs.Sweeping.{struck_live}
 -- what the sweep finds
 abbrev pub found : Env → Assignment → State → Found
 found e a s = first_monotone a s (members (live e a s))
+
+-- it is what is chosen from the notes n and the live variables x
+pub found_is : (e : Env) (a : Assignment) (s : State) (x : ℕ) (n : Notes) (o : Option Literal)
+    → o ≡ choice (members x) n
+    → x ≡ live e a s
+    → n ≡ notes a (redundant s) s.table
+    → found_by a s o ≡ found e a s
+found_is e a s x n o chosen lives noted =
+    ap (found_by a s) (chosen ∙ ap₂ (λ (y : ℕ) (m : Notes). choice (members y) m) lives noted) ∙ same_choice a s (members (live e a s))
 
 -- a variable that is found is live
 pub found_live : (e : Env) (a : Assignment) (s : State) (w r : ℕ) → found e a s ≡ variable w r → OneOf w (live e a s)

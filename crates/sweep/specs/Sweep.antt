@@ -1,5 +1,6 @@
 -- The sweep's values as those of `steps`, and what its functions ask.
-use Rattle.std.specs.Prelude.{◌≡◌, List, ℕ, ◌+◌, ◌≤◌, length}
+use Rattle.std.specs.Prelude.{◌≡◌, List, ℕ, ◌+◌, ◌≤◌, length, Some, None}
+use Rattle.std.specs.declared.option.Option as rust
 use Rattle.std.proofs.Math.Option.{Option, some, none}
 use Rattle.steps.specs.Clause as clause
 use Rattle.steps.specs.Notes as notes
@@ -13,8 +14,6 @@ use Rattle.rows.specs.declared.state.Counts.{Counts}
 use Rattle.rows.specs.declared.state.Env.{Env}
 use Rattle.sweep.specs.declared.Noted.{Noted}
 use Rattle.sweep.specs.declared.Literal.{Literal}
-use Rattle.sweep.specs.declared.Chosen.{Chosen}
-use Rattle.sweep.specs.declared.Chosen.TheVariants as chosen
 
 abbrev pub notes_of : Noted → notes.Notes
 notes_of x = record { pos = x.pos; neg = x.neg }
@@ -22,9 +21,9 @@ notes_of x = record { pos = x.pos; neg = x.neg }
 abbrev pub literal_of : Literal → notes.Literal
 literal_of l = record { var = l.var; sign = l.sign }
 
-abbrev pub choice_of : Chosen → Option notes.Literal
-choice_of (chosen.By l) = some (literal_of l)
-choice_of chosen.Nothing = none
+abbrev pub choice_of : rust.Option Literal → Option notes.Literal
+choice_of (Some l) = some (literal_of l)
+choice_of None = none
 
 -- a point whose clauses the work table holds. Its list has room for a D-sequent for each variable
 pub record Ready (t rs : List ℕ) (e : Env) (a : Assignment) (s : Counts) : Type 0 where

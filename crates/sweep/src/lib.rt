@@ -14,6 +14,7 @@ ghost use Rattle.rows.specs.Tally.{Tallied, TalliedAt, Variable};
 ghost use Rattle.sweep.specs.Sweep.{notes_of, literal_of, choice_of, Ready, Striking};
 
 use rows::clause::{Assignment, Clause};
+use rows::index::Row;
 use rows::records::DSequent;
 use rows::state::{Counts, Env};
 use rows::{clause, index, records, state, table, tallies};
@@ -32,14 +33,8 @@ pub struct Literal {
     pub sign: bool,
 }
 
-// The literal by which a variable is struck, if one passes.
-#[derive(Clone, Copy)]
-enum Chosen {
-    By(Literal),
-    Nothing,
-}
-
 // The turn of a clause in play: it adds its literals.
+#[tactic(auto, using(crate::proofs::Noting::adds_literals))]
 fn note(c: Clause, seen: Noted) -> Noted
     ensures { (a : Decisions) (k : ℕ) → inactive a k (clause_of c) ≡ false → notes_of result ≡ Note a k (clause_of c) (notes_of seen) }
 {
@@ -50,6 +45,7 @@ fn note(c: Clause, seen: Noted) -> Noted
 }
 
 // The decision that a clause adds for the literal l, and 0 where it adds none. It names a redundant variable where `struck` says so.
+#[tactic(auto, using(steps::proofs::Notes::without_literal, steps::proofs::Notes::naming_redundant, steps::proofs::Notes::adds_keeper))]
 fn keeper(c: Clause, struck: bool, l: Literal, a: Assignment) -> u64
     ensures { (k : ℕ) → struck ≡ names k (clause_of c) → result ≡ Keeper (literal_of l) (assignment_of a) k (clause_of c) }
 {
@@ -68,10 +64,8 @@ fn notes(t: &[u64], q: &[u64], m: usize) -> Noted
     ensures { (a : Decisions) (k : ℕ) → Tallied t.now q.now m a k → notes_of result ≡ Notes a k (clauses t.now m) }
 {
     let mut seen = Noted { pos: 0, neg: 0 };
-    let mut at = index::first(q, m, index::PLAYING, index::PLAYING);
-    while at.number < m {
-        seen = note(table::clause_at(t, at.number), seen);
-        at = index::next(q, m, index::PLAYING, index::PLAYING, at);
+    for i in index::both(q, m, Row::Playing, Row::Playing) {
+        seen = note(table::clause_at(t, i), seen);
     }
     seen
 }
@@ -92,28 +86,26 @@ fn gather(t: &[u64], q: &[u64], m: usize, l: Literal, a: Assignment, r: u64) -> 
     requires { (clause_words m ≤ length t.now) × (tally_words m ≤ length q.now) × Variable l.var }
     ensures { (k : ℕ) → Tallied t.now q.now m (assignment_of a) k → result ≡ Gather (literal_of l) (assignment_of a) k r (clauses t.now m) }
 {
-    let row = index::VARS + (words::lowest_var(l.var) as usize);
+    let number = words::lowest_var(l.var);
     let mut reasons = r;
-    let mut at = index::first(q, m, row, row);
-    while at.number < m {
-        let i = at.number;
-        let struck = index::is_in(q, index::STRUCK, i);
-        reasons = reasons | keeper(table::clause_at(t, i), struck, l, a);
-        at = index::next(q, m, row, row, at);
+    for i in index::both(q, m, Row::Naming(number), Row::Naming(number)) {
+        let struck = index::is_in(q, Row::Struck, i);
+        reasons |= keeper(table::clause_at(t, i), struck, l, a);
     }
     reasons
 }
 
 // The choice from the notes: the lowest live variable with a literal that is not noted, by its negative literal if that one is not, else by its positive one.
-fn choice(live: u64, seen: Noted) -> Chosen
+#[tactic(auto, using(crate::proofs::Choosing::none_free, crate::proofs::Choosing::lowest_chosen, words::proofs::Sets::nonzero))]
+fn choice(live: u64, seen: Noted) -> Option<Literal>
     ensures { choice_of result ≡ Choice (members live) (notes_of seen) }
 {
     let free = words::minus(live, seen.pos & seen.neg);
     if free == 0 {
-        return Chosen::Nothing;
+        return None;
     }
     let w = words::lowest_of(free);
-    Chosen::By(Literal {
+    Some(Literal {
         var: w,
         sign: words::meets(seen.neg, w),
     })
@@ -144,16 +136,15 @@ pub fn sweep(t: &[u64], q: &mut [u64], rs: &mut [u64], e: Env, a: Assignment, s:
     ensures { (state_of t.now rs.new result ≡ Sweep (env_of e) (assignment_of a) e.vars (state_of t.now rs.old s)) × TalliedAt t.now q.new rs.new (assignment_of a) result }
 {
     let first = records::last(rs, s.records);
-    if words::minus(state::undecided(e, a), first.redundant) == 0 {
+    if state::live(e, a, first) == 0 {
         return s;
     }
     let mut seen = notes(t, q, s.clauses);
     let mut now = s;
     loop {
         let d = records::last(rs, now.records);
-        let live = words::minus(state::undecided(e, a), d.redundant);
-        let found = choice(live, seen);
-        let Chosen::By(l) = found else {
+        let live = state::live(e, a, d);
+        let Some(l) = choice(live, seen) else {
             return now;
         };
         if live == l.var {

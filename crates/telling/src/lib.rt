@@ -1,14 +1,13 @@
 // What is found of open options, told in numbers: the word of an answer, and in two places of the caller the verdict and the last setting tried.
 #![tactic(auto)]
 
-ghost use Rattle.std.specs.Prelude.{◌≡◌};
 ghost use Rattle.order.specs.Values.{order_of};
-ghost use Rattle.contract.specs.Filled.{lent};
-ghost use Rattle.undecided.specs.Told.{verdict_number, Told};
+ghost use Rattle.checker.specs.Lent.{tables_of, SameReferences};
+ghost use Rattle.undecided.specs.Told.{Told};
 
 use answer::Answer;
+use checker::Tables;
 use order::Order;
-use undecided::{Reply, Verdict};
 
 // Tries the settings of the options in `opens` (crate `trying`), and returns the word of the last setting's answer, or that of a refusal. `verdict` is then the
 // number of the verdict and `setting` the last setting tried; a refusal changes neither.
@@ -19,36 +18,17 @@ pub fn undecided(
     allowance: u32,
     verdict: &mut u32,
     setting: &mut u64,
-    pos: &mut [u64],
-    neg: &mut [u64],
-    decided: &mut [u64],
-    trues: &mut [u64],
-    redundant: &mut [u64],
+    tables: &mut Tables<'_>,
 ) -> u64
-    ensures { Told book.now (order_of o) opens allowance verdict.old setting.old (lent pos.old neg.old decided.old trues.old redundant.old) result verdict.new setting.new (lent pos.new neg.new decided.new trues.new redundant.new) }
+    ensures same_references { SameReferences tables.old tables.new }
+    ensures told { Told book.now (order_of o) opens allowance verdict.old setting.old (tables_of tables.old) result verdict.new setting.new (tables_of tables.new) }
 {
-    match trying::undecided(
-        book, o, opens, allowance, pos, neg, decided, trues, redundant,
-    ) {
-        Reply::Refused(k) => answer::word_of(Answer::Refused(k)),
-        Reply::Tried(found) => {
-            let told = found.verdict;
-            let last = found.last;
-            *verdict = verdict_number(told);
+    match trying::undecided(book, o, opens, allowance, tables) {
+        Err(refusal) => answer::word_of(Answer::Refused(refusal)),
+        Ok(found) => {
+            *verdict = u32::from(found.verdict);
             *setting = found.setting;
-            answer::word_of(last)
+            answer::word_of(found.last)
         }
-    }
-}
-
-// 0 always, 1 sometimes, 2 never, 3 stopped.
-fn verdict_number(v: Verdict) -> u32
-    ensures { result ≡ verdict_number v }
-{
-    match v {
-        Verdict::Always => 0,
-        Verdict::Sometimes => 1,
-        Verdict::Never => 2,
-        Verdict::Stopped => 3,
     }
 }

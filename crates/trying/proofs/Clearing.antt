@@ -6,9 +6,8 @@ use native.Mathlib.Omega.{arith}
 use lib.ListN.{length, length-map}
 use Rattle.steps.specs.Clause.{Clause, DSequent}
 use Rattle.steps.specs.Run.{Outcome}
-use Rattle.answer.specs.Answer.{tally_of, tally_in}
+use Rattle.answer.specs.Answer.{tally_of, tally_in, Answer}
 use Rattle.answer.specs.declared.Tally.{Tally}
-use Rattle.answer.specs.declared.Answer.{Answer}
 use Rattle.answer.proofs.Ending.{tally_told}
 use Rattle.order.specs.Order.{Order}
 use Rattle.contract.specs.Check.{Result, Result.refused, Result.ran, check}
@@ -19,7 +18,12 @@ use Rattle.contract.proofs.Filling.{tables_equal, ran_spent, ran_records}
 use Rattle.undecided.specs.Undecided.{with_setting, zeroed}
 use Rattle.settings.specs.Promises.{Counted, cleared}
 use Rattle.settings.proofs.Clearing.{written_cleared}
-use Rattle.trying.specs.Promises.{Stands}
+use Rattle.undecided.specs.Undecided.{answer_to}
+
+-- the tables hold what the check of the order with setting s wrote into zeros, and a is its answer
+pub record Stands (bytes : List ℕ) (o : Order) (opens allowance s : ℕ) (a : Answer) (t : Tables) : Type 0 where
+  pub answer : a ≡ answer_to bytes o opens allowance (lengths t) s
+  pub tables : t ≡ filled (check bytes (with_setting o opens s) allowance (lengths t)) (zeroed t)
 
 -- a setting that stands: its counts fit, and cleared of them the tables are zero
 module _ (bytes : List ℕ) (o : Order) (opens allowance s : ℕ) (a : Answer) (t : Tables) (stands : Stands bytes o opens allowance s a t) where

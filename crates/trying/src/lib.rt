@@ -2,16 +2,20 @@
 #![tactic(auto)]
 
 ghost use Rattle.order.specs.Values.{order_of};
-ghost use Rattle.contract.specs.Filled.{lent};
+ghost use Rattle.checker.specs.Lent.{tables_of, SameReferences};
 ghost use Rattle.undecided.specs.Undecided.{Replies};
+ghost use Rattle.undecided.specs.Values.{tried_of, reply_of};
 ghost use Rattle.trying.specs.Promises.{Ready, TriesAll};
 
+use answer::Refusal;
+use checker::Tables;
+use known::Known;
 use order::Order;
 use settings::clear;
-use undecided::{Reply, Tried};
+use undecided::Tried;
 
 mod judge;
-mod turn;
+mod known;
 
 // Tries every setting of the options in `opens`, lowest word first: the order, with the open options of the setting wanted and the other open ones
 // unwanted. A refusal changes nothing. Otherwise the tables are cleared before each setting, and keep what the last one wrote, with zeros after it.
@@ -20,69 +24,39 @@ pub fn undecided(
     o: Order,
     opens: u64,
     allowance: u32,
-    pos: &mut [u64],
-    neg: &mut [u64],
-    decided: &mut [u64],
-    trues: &mut [u64],
-    redundant: &mut [u64],
-) -> Reply
-    ensures { Replies book.now (order_of o) opens allowance (lent pos.old neg.old decided.old trues.old redundant.old) result (lent pos.new neg.new decided.new trues.new redundant.new) }
+    tables: &mut Tables<'_>,
+) -> Result<Tried, Refusal>
+    ensures same_references { SameReferences tables.old tables.new }
+    ensures replies { Replies book.now (order_of o) opens allowance (tables_of tables.old) (reply_of result) (tables_of tables.new) }
 {
-    match judge::refusal(
-        book,
-        o,
-        opens,
-        pos.len(),
-        neg.len(),
-        decided.len(),
-        trues.len(),
-        redundant.len(),
-    ) {
-        judge::Judged::Number(k) => Reply::Refused(k),
-        judge::Judged::Nothing => {
-            clear::all(pos, neg, decided, trues, redundant);
-            Reply::Tried(try_all(
-                book, o, opens, allowance, pos, neg, decided, trues, redundant,
-            ))
-        }
-    }
+    judge::admit(book, o, opens, tables.lengths())?;
+    clear::all(tables);
+    Ok(try_all(book, o, opens, allowance, tables))
 }
 
 // Tries the settings one after the other, on tables of zeros. The tables are cleared of what a setting wrote before the next one.
-fn try_all(
-    book: &[u8],
-    o: Order,
-    opens: u64,
-    allowance: u32,
-    pos: &mut [u64],
-    neg: &mut [u64],
-    decided: &mut [u64],
-    trues: &mut [u64],
-    redundant: &mut [u64],
-) -> Tried
-    requires { Ready (lent pos.old neg.old decided.old trues.old redundant.old) }
-    ensures { TriesAll book.now (order_of o) opens allowance (lent pos.old neg.old decided.old trues.old redundant.old) result (lent pos.new neg.new decided.new trues.new redundant.new) }
+fn try_all(book: &[u8], o: Order, opens: u64, allowance: u32, tables: &mut Tables<'_>) -> Tried
+    requires { Ready (tables_of tables.old) }
+    ensures same_references { SameReferences tables.old tables.new }
+    ensures tries_all { TriesAll book.now (order_of o) opens allowance (tables_of tables.old) (tried_of result) (tables_of tables.new) }
 {
-    let mut g = turn::attempt(
-        book, o, opens, allowance, 0, true, false, pos, neg, decided, trues, redundant,
-    );
-    while turn::goes_on(g, opens) {
-        let last = g.last;
-        clear::counted(answer::tally_of(last), pos, neg, decided, trues, redundant);
-        g = turn::attempt(
-            book,
-            o,
-            opens,
-            allowance,
-            settings::after(opens, g.setting),
-            g.all,
-            g.any,
-            pos,
-            neg,
-            decided,
-            trues,
-            redundant,
-        );
+    let mut known = Known {
+        all: true,
+        any: false,
+    };
+    let mut setting = 0;
+    loop {
+        let last = checker::check(book, settings::wishes(o, opens, setting), allowance, tables);
+        known = known.with(last);
+        let stops = known::is_stop(last);
+        if stops || setting == opens {
+            return Tried {
+                verdict: known.verdict(stops),
+                setting,
+                last,
+            };
+        }
+        clear::counted(answer::tally_of(last), tables);
+        setting = settings::after(opens, setting);
     }
-    turn::summary(g)
 }

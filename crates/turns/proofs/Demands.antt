@@ -23,13 +23,10 @@ use Rattle.order.proofs.Completed.{completing}
 use Rattle.book.specs.Bytes.{vars_in, rules_in}
 use Rattle.book.specs.Conditions.{NoRow}
 use Rattle.contract.proofs.Demands as contract
-use Rattle.turns.specs.Turns.{Player.buyer, settled, wins, forces, given, response, responses}
+use Rattle.turns.specs.Turns.{Response, Response.Out, Response.Fitted, Response.None, Responses, Player.buyer, settled, wins, forces, given, response, responses}
 use Rattle.turns.specs.Handed.{Places, places, response_number, number_of, places_in}
 use Rattle.turns.specs.Meaning.{Free, CanForceFrom}
 use Rattle.turns.specs.Demands.{free_options, turns_conditions, IsForced, CanForce, EveryPlay, Forces, Forcing, NoneFree, NeverCannot, answer_to, after_two, RightResponse, Responding, NoSecond, BothAnswers, Stands, Hold, Taking, Demands}
-use Rattle.turns.specs.declared.Responses.{Responses}
-use Rattle.turns.specs.declared.Response.{Response}
-use Rattle.turns.specs.declared.Response.TheVariants.{Out, Fitted, None}
 use Rattle.turns.proofs.Listing.{is_free, free_options_lem}
 use Rattle.turns.proofs.Judging.{forced_now, its_answers, admitted, forced_iff, open_iff, forced_passes, answers_pass, answers_are, refusals, named_refusal}
 use Rattle.turns.proofs.Turning.{forces_end, wins_builds, turn_by_turn as turns_hold, some_end, response_some, responses_none, responses_some, right_serving, both_given, given_iff, no_second as none_second}

@@ -17,10 +17,8 @@ use Rattle.book.specs.Conditions.{condition, First, NoRow, Decides, book_conditi
 use Rattle.book.proofs.Refusals.{decides_append, first_iff, none_iff, first_number, append_numbers, book_numbers, no_first}
 use Rattle.book.proofs.Conditions.{rows_decide}
 use Rattle.book.proofs.Accepted.{Admitted, none_admitted}
-use Rattle.turns.specs.Turns.{in_turn, max_free, free_rows, turns_rows, Player.buyer, wins, forces, responses, told, played, answered_by, turns}
+use Rattle.turns.specs.Turns.{Responses, Turns.Refused, in_turn, max_free, free_rows, turns_rows, Player.buyer, wins, forces, responses, told, played, answered_by, turns}
 use Rattle.turns.specs.Demands.{free_options, turns_conditions, IsForced, IsOpen, RefusedOrPlayed, Refusals, NamedRefusal, AnswersAre}
-use Rattle.turns.specs.declared.Responses.{Responses}
-use Rattle.turns.specs.declared.Turns.TheVariants.{Refused}
 use Rattle.turns.proofs.Listing.{free_number}
 
 -- ---- 16

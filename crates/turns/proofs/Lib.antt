@@ -5,6 +5,5 @@ pub mod Turning
 pub mod Rounds
 pub mod Ways
 pub mod Plays
-pub mod Handing
 mod Examples
 pub mod Demands

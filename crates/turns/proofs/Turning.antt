@@ -11,10 +11,8 @@ use Rattle.words.proofs.Sets.{or_within, within_lt}
 use Rattle.steps.specs.Clause.{Clause}
 use Rattle.steps.specs.Run.{Assumptions}
 use Rattle.steps.specs.Meaning.{Builds, models, obeys}
-use Rattle.turns.specs.Turns.{Player, Player.buyer, Player.planner, settled, wins, forces, serving, given, response, responses}
+use Rattle.turns.specs.Turns.{Response, Response.Out, Response.Fitted, Response.None, Player, Player.buyer, Player.planner, settled, wins, forces, serving, given, response, responses}
 use Rattle.turns.specs.Demands.{Forces, RightResponse}
-use Rattle.turns.specs.declared.Response.{Response}
-use Rattle.turns.specs.declared.Response.TheVariants.{Out, Fitted, None}
 
 -- ---- the definition, step by step
 

@@ -11,16 +11,12 @@ use Rattle.order.specs.Demands.{order}
 use Rattle.book.specs.Bytes.{vars_in, rules_in, encode}
 use Rattle.book.specs.Conditions.{Condition, condition, First, NoRow, admit_conditions}
 use Rattle.answer.specs.declared.Tally.{Tally}
-use Rattle.answer.specs.declared.Answer.TheVariants.{Cannot}
+use Rattle.answer.specs.Answer.{Answer.Cannot}
 use Rattle.contract.specs.Check.{Lengths}
 use Rattle.contract.specs.Demands.{answer}
-use Rattle.turns.specs.Turns.{Player, Player.buyer, Player.planner, settled, in_turn, turns}
+use Rattle.turns.specs.Turns.{Response, Response.Out, Response.Fitted, Response.None, Responses, Turns.Forced, Turns.Open, Turns.Refused, Player, Player.buyer, Player.planner, settled, in_turn, turns}
 use Rattle.turns.specs.Handed.{Places, Hands}
 use Rattle.turns.specs.Meaning.{Free, Way, Play, CanForceFrom}
-use Rattle.turns.specs.declared.Response.{Response}
-use Rattle.turns.specs.declared.Response.TheVariants.{Out, Fitted, None}
-use Rattle.turns.specs.declared.Responses.{Responses}
-use Rattle.turns.specs.declared.Turns.TheVariants.{Forced, Open, Refused}
 
 -- ---- the free options
 

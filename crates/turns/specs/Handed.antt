@@ -1,11 +1,7 @@
 -- What the exported function hands over: a number, and in the caller's three places whether it is forced, and the planner's two answers.
 use Rattle.std.specs.Prelude.{◌≡◌, List, ℕ}
 use Rattle.order.specs.Order.{Order}
-use Rattle.turns.specs.Turns.{turns}
-use Rattle.turns.specs.declared.Response.{Response}
-use Rattle.turns.specs.declared.Response.TheVariants.{Out, Fitted, None}
-use Rattle.turns.specs.declared.Turns.{Turns}
-use Rattle.turns.specs.declared.Turns.TheVariants.{Forced, Open, Refused}
+use Rattle.turns.specs.Turns.{Response, Response.Out, Response.Fitted, Response.None, Turns, Turns.Forced, Turns.Open, Turns.Refused, turns}
 
 -- the three places: forced, the answer to "left out", the answer to "fitted"
 pub record Places : Type 0 where

@@ -10,11 +10,25 @@ use Rattle.steps.specs.Meaning.{models, obeys}
 use Rattle.order.specs.Order.{Order, complete, free}
 use Rattle.book.specs.Bytes.{vars_in, rules_in}
 use Rattle.book.specs.Refusals.{Row, row, first_row, admit_rows}
-use Rattle.turns.specs.declared.Response.{Response}
-use Rattle.turns.specs.declared.Response.TheVariants.{Out, Fitted, None}
-use Rattle.turns.specs.declared.Responses.{Responses}
-use Rattle.turns.specs.declared.Turns.{Turns}
-use Rattle.turns.specs.declared.Turns.TheVariants.{Forced, Open, Refused}
+
+-- ---- what is answered
+
+-- what the planner answers to a choice of the buyer's: he leaves the next option out, he fits it, or there is no answer
+pub data Response : Type 0 where
+  Out : Response
+  Fitted : Response
+  None : Response
+
+-- his answers where the buyer leaves the first option out, and where he fits it
+pub record Responses : Type 0 where
+  pub out : Response
+  pub fitted : Response
+
+-- whether the planner can force it, and his answers; or the number of the refusal
+pub data Turns : Type 0 where
+  Forced : Responses → Turns
+  Open : Responses → Turns
+  Refused : ℕ → Turns
 
 -- ---- refusals
 

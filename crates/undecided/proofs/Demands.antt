@@ -9,8 +9,7 @@ use Rattle.order.specs.Order.{Order}
 use Rattle.book.specs.Conditions.{NoRow}
 use Rattle.answer.specs.Packed.{unpacked, Packable}
 use Rattle.answer.specs.declared.Tally.{Tally}
-use Rattle.answer.specs.declared.Answer.{Answer}
-use Rattle.answer.specs.declared.Answer.TheVariants.{Refused as CheckRefused, Stopped as CheckStopped}
+use Rattle.answer.specs.Answer.{Answer, Answer.Refused as CheckRefused, Answer.Stopped as CheckStopped}
 use Rattle.answer.proofs.Demands.{inverse}
 use Rattle.contract.specs.Check.{Lengths}
 use Rattle.contract.specs.Filled.{Tables, lengths}
@@ -19,9 +18,7 @@ use Rattle.contract.proofs.Demands as contract
 use Rattle.undecided.specs.Undecided.{with_setting, undecided}
 use Rattle.undecided.specs.Told.{verdict_number, word_in, verdict_in, setting_in}
 use Rattle.undecided.specs.Demands.{undecided_conditions, NamedReply, Answers, TriedIs, InTurn, Trying, RightVerdict, Verdicts, LastWrote, TablesKept, NoPart, Bought, Buying, AlwaysEnough, Taking, Demands}
-use Rattle.undecided.specs.declared.Tried.{Tried}
-use Rattle.undecided.specs.declared.Reply.{Reply}
-use Rattle.undecided.specs.declared.Reply.TheVariants.{Refused, Tried as tried}
+use Rattle.undecided.specs.Values.{Tried, Reply, Reply.Refused, Reply.tried}
 use Rattle.undecided.proofs.Subsets.{all_settings}
 use Rattle.undecided.proofs.Walk.{visiting}
 use Rattle.undecided.proofs.Judging.{outcome_of, left_tried, judged, tried_passed, no_row, tried_is, refusals, refused_number}

@@ -17,8 +17,7 @@ use Rattle.order.specs.Order.{Order, complete}
 use Rattle.book.specs.Bytes.{vars_in, rules_in}
 use Rattle.book.specs.Conditions.{NoRow}
 use Rattle.answer.specs.declared.Tally.{Tally}
-use Rattle.answer.specs.declared.Answer.{Answer}
-use Rattle.answer.specs.declared.Answer.TheVariants.{Can, Cannot, Refused as CheckRefused, Stopped as CheckStopped}
+use Rattle.answer.specs.Answer.{Answer, Answer.Can, Answer.Cannot, Answer.Refused as CheckRefused, Answer.Stopped as CheckStopped}
 use Rattle.contract.specs.Check.{Lengths, Result, Result.ran, outcome, check}
 use Rattle.contract.specs.Filled.{Tables, lengths, answer_of, filled}
 use Rattle.contract.specs.Demands.{Permitted, RightOutcome, Uncovered, Settled, IsVerdict}
@@ -30,7 +29,7 @@ use Rattle.undecided.specs.Settings.{settings}
 use Rattle.undecided.specs.Undecided.{with_setting, zeroed, tried_on, is_can, is_stop, last_tried, all_can, some_can, verdict_by, tried_all, Left, undecided}
 use Rattle.undecided.specs.Demands.{undecided_conditions, BuildableWith, Stops, single, InTurn, RightVerdict, WordsThenZeros, LastWrote, Bought}
 use Rattle.undecided.specs.declared.Verdict.TheVariants.{Stopped}
-use Rattle.undecided.specs.declared.Tried.{Tried}
+use Rattle.undecided.specs.Values.{Tried}
 use Rattle.undecided.proofs.Subsets.{all_settings}
 use Rattle.undecided.proofs.Walk.{walked, walk_ends}
 use Rattle.undecided.proofs.Judging.{outcome_of, left_tried, no_row}

@@ -26,8 +26,7 @@ use Rattle.contract.proofs.Checking.{tables_decide, numbered}
 use Rattle.undecided.specs.Settings.{settings}
 use Rattle.undecided.specs.Undecided.{max_open, open_rows, undecided_rows, answer_to, tried_to, last_setting, tried_all, left_by, undecided}
 use Rattle.undecided.specs.Demands.{open_conditions, undecided_conditions, RefusedOrTried, Refusals, TriedIs}
-use Rattle.undecided.specs.declared.Tried.{Tried}
-use Rattle.undecided.specs.declared.Reply.TheVariants.{Refused, Tried as tried}
+use Rattle.undecided.specs.Values.{Tried, Reply.Refused, Reply.tried}
 
 -- ---- 19 and 20
 

@@ -8,4 +8,3 @@ pub mod Tables
 pub mod Examples
 pub mod Found
 pub mod Demands
-pub mod Telling

@@ -10,7 +10,7 @@ use lib.Seq.{get_or-drop}
 use Rattle.words.proofs.Truth.{when_true, when_false}
 use Rattle.steps.specs.Run.{Outcome}
 use Rattle.order.specs.Order.{Order}
-use Rattle.answer.specs.declared.Answer.{Answer}
+use Rattle.answer.specs.Answer.{Answer}
 use Rattle.contract.specs.Check.{Lengths, Result.ran, check}
 use Rattle.contract.specs.Filled.{Tables, lent, lengths, filled}
 use Rattle.contract.specs.Demands.{Fills}
@@ -20,7 +20,7 @@ use Rattle.undecided.specs.Undecided.{with_setting, answer_to, zeroed, is_stop, 
 use Rattle.undecided.specs.Demands.{ZeroFrom, WordsThenZeros}
 use Rattle.undecided.proofs.Subsets.{some_subset}
 use Rattle.undecided.proofs.Trying.{last_stops, last_goes}
-use Rattle.undecided.specs.declared.Reply.TheVariants.{Tried as tried}
+use Rattle.undecided.specs.Values.{Reply.tried}
 
 -- no length changes
 pub zeroed_lengths : (t : Tables) → lengths (zeroed t) ≡ lengths t

@@ -15,11 +15,9 @@ use Rattle.order.specs.Order.{Order, complete}
 use Rattle.order.specs.Demands.{order}
 use Rattle.book.specs.Bytes.{vars_in, rules_in, encode}
 use Rattle.book.specs.Conditions.{Condition, condition, First, NoRow, HasAbove, InBoth, admit_conditions}
-use Rattle.answer.specs.Answer.{tally_of}
+use Rattle.answer.specs.Answer.{tally_of, Answer, Answer.Can, Answer.Cannot, Answer.Refused as CheckRefused, Answer.Stopped as CheckStopped}
 use Rattle.answer.specs.Packed.{unpacked}
 use Rattle.answer.specs.declared.Tally.{Tally}
-use Rattle.answer.specs.declared.Answer.{Answer}
-use Rattle.answer.specs.declared.Answer.TheVariants.{Can, Cannot, Refused as CheckRefused, Stopped as CheckStopped}
 use Rattle.contract.specs.Check.{Lengths, outcome}
 use Rattle.contract.specs.Filled.{Tables, lent, lengths}
 use Rattle.contract.specs.Demands.{answer, Permitted, check_conditions, tables_of, first_places, RightOutcome, Uncovered, Settled, IsVerdict}
@@ -27,9 +25,7 @@ use Rattle.undecided.specs.Settings.{settings, next_setting}
 use Rattle.undecided.specs.Undecided.{with_setting, undecided}
 use Rattle.undecided.specs.Told.{Told}
 use Rattle.undecided.specs.declared.Verdict.TheVariants.{Always, Sometimes, Never, Stopped}
-use Rattle.undecided.specs.declared.Tried.{Tried}
-use Rattle.undecided.specs.declared.Reply.{Reply}
-use Rattle.undecided.specs.declared.Reply.TheVariants.{Refused, Tried as tried}
+use Rattle.undecided.specs.Values.{Tried, Reply, Reply.Refused, Reply.tried}
 
 -- ---- refusals
 

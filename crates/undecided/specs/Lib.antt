@@ -1,4 +1,5 @@
--- Options that a buyer has not decided. `Settings` lists the settings of the open options, `Undecided` is the definition, `Told` what a caller is handed, and `Demands` the page to read.
+-- Options that a buyer has not decided. `Values` is what is answered, `Settings` lists the settings of the open options, `Undecided` is the definition, `Told` what a caller is handed, and `Demands` the page to read.
+pub mod Values
 pub mod Settings
 pub mod Undecided
 pub mod Told

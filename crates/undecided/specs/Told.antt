@@ -2,13 +2,12 @@
 use Rattle.std.specs.Prelude.{◌≡◌, List, ℕ}
 use Rattle.order.specs.Order.{Order}
 use Rattle.answer.specs.Packed.{packed}
-use Rattle.answer.specs.declared.Answer.TheVariants.{Refused as CheckRefused}
+use Rattle.answer.specs.Answer.{Answer.Refused as CheckRefused}
 use Rattle.contract.specs.Filled.{Tables}
 use Rattle.undecided.specs.Undecided.{undecided}
 use Rattle.undecided.specs.declared.Verdict.{Verdict}
 use Rattle.undecided.specs.declared.Verdict.TheVariants.{Always, Sometimes, Never, Stopped}
-use Rattle.undecided.specs.declared.Reply.{Reply}
-use Rattle.undecided.specs.declared.Reply.TheVariants.{Refused, Tried as tried}
+use Rattle.undecided.specs.Values.{Reply, Reply.Refused, Reply.tried}
 
 abbrev pub verdict_number : Verdict → ℕ
 verdict_number Always = 0

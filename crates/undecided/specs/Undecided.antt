@@ -7,16 +7,13 @@ use Rattle.words.specs.Words.{minus, meets}
 use Rattle.order.specs.Order.{Order}
 use Rattle.book.specs.Bytes.{vars_in}
 use Rattle.book.specs.Refusals.{Row, row, first_row, above, admit_rows}
-use Rattle.answer.specs.declared.Answer.{Answer}
-use Rattle.answer.specs.declared.Answer.TheVariants.{Can, Cannot, Refused as CheckRefused, Stopped as CheckStopped}
+use Rattle.answer.specs.Answer.{Answer, Answer.Can, Answer.Cannot, Answer.Refused as CheckRefused, Answer.Stopped as CheckStopped}
 use Rattle.contract.specs.Check.{Lengths, table_rows, check}
 use Rattle.contract.specs.Filled.{Tables, lengths, answer_of, filled}
 use Rattle.undecided.specs.Settings.{settings}
 use Rattle.undecided.specs.declared.Verdict.{Verdict}
 use Rattle.undecided.specs.declared.Verdict.TheVariants.{Always, Sometimes, Never, Stopped}
-use Rattle.undecided.specs.declared.Tried.{Tried}
-use Rattle.undecided.specs.declared.Reply.{Reply}
-use Rattle.undecided.specs.declared.Reply.TheVariants.{Refused, Tried as tried}
+use Rattle.undecided.specs.Values.{Tried, Reply, Reply.Refused, Reply.tried}
 
 -- ---- refusals
 

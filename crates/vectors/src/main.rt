@@ -5,32 +5,41 @@
 use std::io;
 use std::io::Read;
 
-fn length_of(low: u8, high: u8) -> usize {
-    low as usize + 256 * (high as usize)
+// The program that an input is for.
+#[derive(Clone, Copy)]
+enum Program {
+    Reply,
+    Page,
 }
 
-// Writes the reply.
-fn reply_to(rt: &impl Print, input: &[u8]) -> io::Result<()> {
-    let mut text = reply::reply_buffer();
-    let n = reply::respond(input, &mut text);
-    rt.write_all(&text[..n])
-}
+// There is no program of this number.
+#[derive(Clone, Copy)]
+struct NoProgram;
 
-// Writes the page.
-fn page_of(rt: &impl Print, input: &[u8]) -> io::Result<()> {
-    let mut page = filing::page_buffer();
-    let n = filing::respond(input, &mut page);
-    rt.write_all(&page[..n])
-}
+impl TryFrom<u8> for Program {
+    type Error = NoProgram;
 
-// Writes what the program of this number writes for an input, and says whether there is such a program.
-fn answer_to(rt: &impl Print, program: u8, input: &[u8]) -> io::Result<bool> {
-    match program {
-        0 => reply_to(rt, input)?,
-        1 => page_of(rt, input)?,
-        _ => return Ok(false),
+    fn try_from(number: u8) -> Result<Program, NoProgram> {
+        match number {
+            0 => Ok(Program::Reply),
+            1 => Ok(Program::Page),
+            _ => Err(NoProgram),
+        }
     }
-    Ok(true)
+}
+
+impl Program {
+    // Writes what the program writes for an input.
+    fn answer(self, rt: &impl Print, input: &[u8]) -> io::Result<()> {
+        match self {
+            Program::Reply => console::print_filled(rt, &mut reply::reply_buffer(), |out| {
+                reply::respond(input, out)
+            }),
+            Program::Page => console::print_filled(rt, &mut filing::page_buffer(), |out| {
+                filing::respond(input, out)
+            }),
+        }
+    }
 }
 
 // Reads an input and answers it, and says whether there was one.
@@ -39,21 +48,27 @@ fn answer_next<R: Read>(rt: &impl Print, reader: &mut R) -> io::Result<bool> {
     if console::read_full(reader, &mut head)? < 3 {
         return Ok(false);
     }
-    let length = length_of(head[1], head[2]);
+    let [number, low, high] = head;
+    let Ok(program) = Program::try_from(number) else {
+        return Ok(false);
+    };
+    let length = u16::from_le_bytes([low, high]) as usize;
     if length > reply::READABLE {
         return Ok(false);
     }
     let mut input = reply::input_buffer();
     console::read_full(reader, &mut input[..length])?;
-    answer_to(rt, head[0], &input[..length])
+    program.answer(rt, &input[..length])?;
+    Ok(true)
 }
 
-// A proved loop has to end, and nothing says that the input does: it counts down from a number that no run uses up.
+// A proved loop has to end, and nothing says that the input does: it counts to a number that no run comes to.
 fn main(rt: HostRuntime) -> io::Result<()> {
     let mut reader = rt.reader();
-    let mut left = u64::MAX;
-    while left > 0 && answer_next(&rt, &mut reader)? {
-        left -= 1;
+    for _ in 0..u64::MAX {
+        if !answer_next(&rt, &mut reader)? {
+            break;
+        }
     }
     Ok(())
 }

@@ -32,7 +32,3 @@ highest_leading x r some few e =
     let top = leading_top 64 x some few in
     let same : r ≡ top.0 = omega (arith, e, top.1) in
     rw same (highest_between x top.0 top.2 top.3)
-
--- a word of 64 digits that is not empty has fewer leading zeros
-pub leading_few : (x : ℕ) → 0 < x → x < 2 ^ 64 → count_leading_zeros 64 x ≤ 63
-leading_few x some few = let top = leading_top 64 x some few in omega (arith, top.1)

@@ -5,6 +5,6 @@ pub mod Sets
 pub mod Unions
 pub mod Lowest
 pub mod Count
+pub mod Listing
 pub mod Highest
 pub mod Demands
-pub mod Shift

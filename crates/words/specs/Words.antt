@@ -1,6 +1,7 @@
 -- A word as a set of variables: variable k is a member where the word's binary digit k is set. Nothing here depends on how many digits a word has.
-use Rattle.std.specs.Prelude.{◌≡◌, Bool, true, false, not, List, [], ◌∷◌, ℕ, zero, suc, ◌-◌, ◌/◌, ◌%◌, ◌^◌, ◌<◌}
+use Rattle.std.specs.Prelude.{MatchOption, Option, ◌≡◌, Bool, true, false, not, List, [], ◌∷◌, map, ℕ, zero, suc, ◌-◌, ◌/◌, ◌%◌, ◌^◌, ◌<◌}
 use Rattle.std.specs.Int.Bits.{bit_and}
+use Rattle.std.specs.Int.Count.{count_trailing_zeros}
 
 abbrev pub is_zero : ℕ → Bool
 is_zero zero = true
@@ -50,6 +51,23 @@ members_up_to (suc k) x = elim (is_zero x) [ true ↦ [] | false ↦ lowest x �
 unfoldable pub members : ℕ → List ℕ
 unfolding members_up_to
 members x = members_up_to x x
+
+-- the numbers of the members of x, a word of 64 digits, lowest first
+unfoldable pub numbers : ℕ → List ℕ
+unfolding members
+numbers x = map (count_trailing_zeros 64) (members x)
+
+-- k is the number of the lowest member of x, and y has the others
+pub record Taken (x k y : ℕ) : Type 0 where
+  pub below : k < 64
+  pub member : has x k ≡ true
+  pub none_below : (j : ℕ) → j < k → has x j ≡ false
+  pub rest : y ≡ minus x (2 ^ k)
+  pub listed : numbers x ≡ k ∷ numbers y
+
+-- a walk through the members that has x to come to gives the lowest one, and y is left; or it gives none, where x is empty
+abbrev pub Gives : ℕ → Option ℕ → ℕ → Type 0
+Gives x r y = MatchOption r ((x ≡ 0) × (y ≡ 0)) (λ k. Taken x k y)
 
 -- every member of a is one of b
 abbrev pub Within : ℕ → ℕ → Type 0

@@ -4,7 +4,8 @@
 
 ghost use Rattle.std.specs.Prelude.{◌≡◌, min, ◌^◌, ◌<◌};
 ghost use Rattle.std.specs.Int.Count.{ones, count_trailing_zeros};
-ghost use Rattle.words.specs.Words.{digit, has, lowest, Highest, minus, meets, first_vars};
+ghost use Rattle.std.specs.Iterator.{item_count};
+ghost use Rattle.words.specs.Words.{digit, has, lowest, Highest, minus, meets, first_vars, numbers, Gives};
 
 // The number of the lowest member of x, and 64 where x is empty.
 pub fn lowest_var(x: u64) -> u32
@@ -30,6 +31,7 @@ pub fn word_of(k: u32) -> u64
 }
 
 // 1 where the variable of number k is a member of x, and else 0.
+#[tactic(auto, using(crate::proofs::Membership::lowest_digit), unfolding(crate::specs::Words::has))]
 pub fn bit_of(x: u64, k: u32) -> u64
     requires { k < 64 }
     ensures { result ≡ digit (has x k) }
@@ -38,6 +40,7 @@ pub fn bit_of(x: u64, k: u32) -> u64
 }
 
 // The lowest member of x, as a word of one variable, and 0 where x is empty.
+#[tactic(auto, using(crate::proofs::Lowest::lowest_zero, crate::proofs::Sets::nonzero, crate::proofs::Count::lowest_trailing, crate::proofs::Count::trailing_lt))]
 pub fn lowest_of(x: u64) -> u64
     ensures { result ≡ lowest x }
 {
@@ -48,6 +51,7 @@ pub fn lowest_of(x: u64) -> u64
 }
 
 // x without its lowest member.
+#[tactic(auto, using(crate::proofs::Sets::minus_minus), unfolding(crate::specs::Words::lowest))]
 pub fn rest_of(x: u64) -> u64
     requires { 0 < x }
     ensures { result ≡ minus x (lowest x) }
@@ -63,6 +67,7 @@ pub fn count_of(x: u64) -> u32
 }
 
 // The word of the first n variables, and of all 64 where n is larger.
+#[tactic(auto, unfolding(crate::specs::Words::first_vars))]
 pub fn first_of(n: u32) -> u64
     ensures { result ≡ first_vars (min n 64) }
 {
@@ -74,6 +79,7 @@ pub fn first_of(n: u32) -> u64
 }
 
 // a without the members of b.
+#[tactic(auto, unfolding(crate::specs::Words::minus))]
 pub fn minus(a: u64, b: u64) -> u64
     ensures { result ≡ minus a b }
 {
@@ -81,8 +87,39 @@ pub fn minus(a: u64, b: u64) -> u64
 }
 
 // Whether a and b share a member.
+#[tactic(auto, using(crate::proofs::Sets::is_zero_test), unfolding(crate::specs::Words::meets))]
 pub fn meets(a: u64, b: u64) -> bool
     ensures { result ≡ meets a b }
 {
     (a & b) != 0
+}
+
+// The members of a word that a walk has still to come to.
+#[derive(Clone, Copy)]
+pub struct Numbers {
+    pub left: u64,
+}
+
+// The numbers of the members of x, lowest first, as in `for k in words::members(x)`.
+pub fn members(x: u64) -> Numbers
+    ensures { result.left ≡ x }
+{
+    Numbers { left: x }
+}
+
+impl Iterator for Numbers {
+    type Item = u32;
+
+    ghost next_gives = { λ s r t. Gives s.left r t.left };
+
+    ghost remaining = { item_count (λ s. numbers s.left) };
+
+    fn next(&mut self) -> Option<u32> {
+        let x = self.left;
+        if x == 0 {
+            return None;
+        }
+        self.left = rest_of(x);
+        Some(lowest_var(x))
+    }
 }

@@ -31,8 +31,7 @@ use Rattle.book.proofs.Refusals.{none_iff}
 use Rattle.book.proofs.Conditions.{order_decides}
 use Rattle.book.proofs.Accepted.{none_admitted}
 use Rattle.book.proofs.RoundTrip.{written_holds, written_admitted}
-use Rattle.answer.specs.Answer.{tally_of}
-use Rattle.answer.specs.declared.Answer.TheVariants.{Cannot}
+use Rattle.answer.specs.Answer.{tally_of, Answer.Cannot}
 use Rattle.contract.specs.Check.{Lengths, outcome}
 use Rattle.contract.specs.Filled.{lengths}
 use Rattle.contract.specs.Demands.{answer, check_conditions, with_places, Settled}

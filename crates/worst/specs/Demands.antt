@@ -11,8 +11,7 @@ use Rattle.order.specs.Demands.{order}
 use Rattle.book.specs.Bytes.{vars_in, rules_in, encode}
 use Rattle.book.specs.Conditions.{NoRow}
 use Rattle.answer.specs.declared.Tally.{Tally}
-use Rattle.answer.specs.declared.Answer.{Answer}
-use Rattle.answer.specs.declared.Answer.TheVariants.{Cannot}
+use Rattle.answer.specs.Answer.{Answer, Answer.Cannot}
 use Rattle.contract.specs.Check.{Lengths}
 use Rattle.contract.specs.Filled.{Tables, lengths, Checked}
 use Rattle.contract.specs.Demands.{Permitted, check_conditions, StopsOnBranchings, StopsOnPlaces}

@@ -43,8 +43,8 @@ pub fn run(options: u32, rules: &[Rule], places: usize, allowance: u32) -> Run {
     let (ending, tally) = match run_engine(&mut t, &mut q, &mut rs, limits, given) {
         Answer::Can(tally) => (CAN, tally),
         Answer::Cannot(tally) => (CANNOT, tally),
-        Answer::Stopped(number, tally) => (Ending::Stopped(number), tally),
-        Answer::Refused(number) => panic!("the engine refuses with {number}"),
+        Answer::Stopped(stop, tally) => (Ending::Stopped(stop.into()), tally),
+        Answer::Refused(refusal) => panic!("the engine refuses: {refusal:?}"),
     };
     let outcome = Outcome {
         ending,

@@ -8,11 +8,11 @@ use crate::watched::Watched;
 /// The first line of a function that tells the watcher.
 pub const TELLING: &str = "use crate::tell::*;";
 
-/// The line of a crate's root that asks the prover for its tactics.
-const TACTICS: &str = "#![tactic(auto)]";
+/// What asks the prover for its tactics, for a crate or a function.
+const TACTICS: [&str; 2] = ["#![tactic(", "#[tactic("];
 
 /// What stands above each type of the engine: here it can also be compared and shown.
-const COPIED: &str = "#[derive(Clone, Copy)]";
+const DERIVED: &str = "#[derive(";
 
 /// The modules that a source declares.
 pub fn modules(source: &str) -> Vec<&str> {
@@ -45,7 +45,9 @@ fn rust(line: &str, crates: &[&str]) -> Result<String, String> {
     let code = line.trim();
     let first = code.split(' ').next().unwrap_or_default();
     let is_known = match first {
-        "ghost" => code.starts_with("ghost use ") && code.ends_with("};"),
+        "ghost" => {
+            code.ends_with("};") && (code.starts_with("ghost use ") || code.contains(" = { "))
+        }
         "requires" | "ensures" => code.ends_with(" }"),
         "//" => true,
         _ => code.is_ascii(),
@@ -58,16 +60,26 @@ fn rust(line: &str, crates: &[&str]) -> Result<String, String> {
             return Err(format!("the crate `{root}` is not translated"));
         }
     }
-    let item = line.strip_prefix("pub ").unwrap_or(line);
     Ok(match first {
         "ghost" | "requires" | "ensures" => String::new(),
-        _ if [TACTICS, COPIED].contains(&code) => String::new(),
+        _ if TACTICS.iter().any(|tactics| code.starts_with(tactics)) => String::new(),
         _ if declared(line).is_some() => String::new(),
-        _ if item.starts_with("struct ") || item.starts_with("enum ") => {
-            format!("#[derive(Clone, Copy, Debug, PartialEq)]\n{line}\n")
-        }
-        _ => format!("{line}\n"),
+        _ => match code.strip_prefix(DERIVED).and_then(|rest| rest.strip_suffix(")]")) {
+            Some(traits) => format!("{DERIVED}{})]\n", shown(traits)),
+            None => format!("{line}\n"),
+        },
     })
+}
+
+/// The traits that are derived, and those by which a value can be compared and shown.
+fn shown(traits: &str) -> String {
+    let mut all: Vec<&str> = traits.split(", ").collect();
+    for due in ["Debug", "PartialEq"] {
+        if !all.contains(&due) {
+            all.push(due);
+        }
+    }
+    all.join(", ")
 }
 
 /// The text with this function as `NAME_itself`, and with one around it that tells the watcher.
@@ -108,11 +120,16 @@ mod tests {
 ghost use Rattle.std.specs.Int.Count.{ones};
 use rows::clause;
 
-#[derive(Clone, Copy)]
+#[derive(Clone, Copy, PartialEq, Default)]
 struct Noted {
     pub pos: u64,
 }
 
+impl Iterator for Noted {
+    ghost remaining = { λ s. at_most s.pos };
+}
+
+#[tactic(auto, using(crate::proofs::Laws::struck))]
 fn strike(
     q: &mut [u64],
     m: usize,
@@ -154,9 +171,12 @@ pub fn sweep(t: &[u64], q: &mut [u64], a: Assignment)
 
 use rows::clause;
 
-#[derive(Clone, Copy, Debug, PartialEq)]
+#[derive(Clone, Copy, PartialEq, Default, Debug)]
 struct Noted {
     pub pos: u64,
+}
+
+impl Iterator for Noted {
 }
 
 fn strike_itself(q: &mut [u64], m: usize, w: u64) -> Noted
@@ -224,9 +244,10 @@ pub fn sweep(t: &[u64], q: &mut [u64], a: Assignment)
     fn a_line_of_another_form_is_named() {
         for (part, other, line) in [
             ("{ones};", "ones", "line 4: `ghost use Rattle.std.specs.Int.Count.ones`"),
-            ("w < 64 }", "w < 64", "line 17: `requires { w < 64`"),
-            ("    Noted {", "    ghost let {", "line 21: `ghost let { pos: 0 }`"),
-            ("pos: 0", "pos: ν", "line 21: `Noted { pos: ν }`"),
+            ("w < 64 }", "w < 64", "line 22: `requires { w < 64`"),
+            ("    Noted {", "    ghost let {", "line 26: `ghost let { pos: 0 }`"),
+            ("s.pos };", "s.pos", "line 13: `ghost remaining = { λ s. at_most s.pos`"),
+            ("pos: 0", "pos: ν", "line 26: `Noted { pos: ν }`"),
         ] {
             assert_eq!(refused(part, other), format!("{line} is not of the form that is known"));
         }

@@ -18,8 +18,9 @@ const TABLES: [&str; 3] = ["t", "q", "rs"];
 type Writer<'a> = (&'a str, &'a str, &'a str);
 
 /// All functions that write a word.
-const WRITERS: [Writer; 5] = [
+const WRITERS: [Writer; 6] = [
     (INDEX, "put_row", "q"),
+    (INDEX, "clear", "q"),
     ("rows/records", "put", "rs"),
     ("rows/table", "put", "t"),
     (TALLIES, "put", "q"),
@@ -49,7 +50,10 @@ pub fn check(files: &[(String, String)]) -> Result<(), String> {
         let told = |what| format!("{}: `{}` {what}", function.file, function.name);
         function.is_watched().map_err(told)?;
     }
-    files.iter().try_for_each(|(file, text)| leaves_the_index(file, text))
+    files.iter().try_for_each(|(file, text)| {
+        keeps_no_table(file, text)?;
+        leaves_the_index(file, text)
+    })
 }
 
 /// The lines of a text that are no comments.
@@ -83,7 +87,9 @@ impl<'a> Function<'a> {
     /// tallies, and others can call it, it is watched, or is one of the index.
     fn is_watched(&self) -> Result<(), String> {
         let is_strange = |line: &str| {
-            lent(line).any(|name| !TABLES.contains(&name)) || TABLES.iter().any(|t| asks(line, t))
+            lent(line).any(|name| !TABLES.contains(&name))
+                || keeps(line)
+                || TABLES.iter().any(|t| asks(line, t))
         };
         if let Some(line) = self.lines.iter().find(|line| is_strange(line)) {
             return Err(format!("may change a table in a way that is not known: `{line}`"));
@@ -102,19 +108,29 @@ impl<'a> Function<'a> {
     }
 }
 
-/// The table of which a line writes a word, or may begin to.
+/// The table of which a line writes a word, or may begin to. A method of a part of a table may write.
 fn written(line: &str) -> Option<&str> {
     let (table, rest) = line.split_once('[')?;
     let is_name = !table.is_empty() && table.chars().all(is_of_a_name);
-    (is_name && (rest.contains('=') || !rest.contains(']'))).then_some(table)
+    let may_write = rest.contains('=') || !rest.contains(']') || rest.contains("].");
+    (is_name && may_write).then_some(table)
 }
+
+/// The step of an iterator. It changes where a walk stands; a walk holds tables that it may read alone.
+const STEP: &str = "fn next(&mut self) ";
 
 /// The names of what a line lends to be changed; an empty one where it has none.
 fn lent(line: &str) -> impl Iterator<Item = &str> {
+    let line = line.strip_prefix(STEP).unwrap_or(line);
     line.match_indices("&mut").map(|(at, _)| {
         let before = line[..at].trim_end().trim_end_matches(':');
         before.rsplit(|c| !is_of_a_name(c)).next().unwrap_or_default()
     })
+}
+
+/// A line has something that is kept to be changed, under a lifetime.
+fn keeps(line: &str) -> bool {
+    line.split("&'").skip(1).any(|rest| rest.trim_start_matches(is_of_a_name).starts_with(" mut"))
 }
 
 /// A line calls a method of the table.
@@ -122,6 +138,14 @@ fn asks(line: &str, table: &str) -> bool {
     line.match_indices(table).any(|(at, _)| {
         line[at + table.len()..].starts_with('.') && !line[..at].ends_with(is_of_a_name)
     })
+}
+
+/// No value of a file's types keeps a table to change.
+fn keeps_no_table(file: &str, text: &str) -> Result<(), String> {
+    match lines(text).find(|line| keeps(line)) {
+        Some(line) => Err(format!("{file}: a table is kept to be changed: `{line}`")),
+        None => Ok(()),
+    }
 }
 
 /// A file other than those of the index and of the tallies uses nothing that changes the index.
@@ -163,6 +187,11 @@ pub fn row(q: &[u64], j: usize) -> u64
 pub fn put_row(q: &mut [u64], j: usize, x: u64)
 {
     q[131 * j] = x;
+}
+
+pub fn clear(q: &mut [u64], j: usize)
+{
+    q[131 * j + 1] = 0;
 }
 ",
         ),
@@ -218,6 +247,7 @@ pub fn start(t: &[u64], q: &mut [u64])
             (TALLIES, "q[0] += d.up", "let x = q[0]", "shift", "q"),
             (INDEX, "q[131 * j] = x", "row(q, j)", "put_row", "q"),
             (INDEX, "fn put_row(", "fn put_rows(", "put_row", "q"),
+            (INDEX, "q[131 * j + 1] = 0", "put_row(q, j, 0)", "clear", "q"),
             ("rows/table", "t[0] = 1;", "", "put", "t"),
         ] {
             let due = format!("{file}: no function `{name}` writes a word of `{table}`");
@@ -227,7 +257,9 @@ pub fn start(t: &[u64], q: &mut [u64])
 
     #[test]
     fn another_function_that_writes_is_named() {
-        for write in ["q[0] += 1;", "q[0] = 1;", "q[0] =", "q[\n        0\n    ] = 1;"] {
+        for write in
+            ["q[0] += 1;", "q[0] = 1;", "q[0] =", "q[\n        0\n    ] = 1;", "q[0..2].fill(0);"]
+        {
             let run = changed("search/run", "tallies::start(q);", write).unwrap_err();
             assert_eq!(run, "search/run: `run` writes a word of `q` and is not known to");
             let start = changed(TALLIES, "put(q, 0);", write).unwrap_err();
@@ -239,13 +271,29 @@ pub fn start(t: &[u64], q: &mut [u64])
 
     #[test]
     fn another_way_to_a_word_is_named() {
-        for line in ["q.fill(0);", "let x = &mut q;", "words::fill(&mut q);"] {
+        for line in
+            ["q.fill(0);", "let x = &mut q;", "words::fill(&mut q);", "let x: &'a mut [u64];"]
+        {
             let run = changed("search/run", "tallies::start(q);", line).unwrap_err();
             let due = "search/run: `run` may change a table in a way that is not known";
             assert_eq!(run, format!("{due}: `{line}`"));
         }
+        let next = "fn next(&mut self) -> Option<u64>\n{\n    None\n}\n\npub fn run(";
+        assert_eq!(changed("search/run", "pub fn run(", next), Ok(()));
+        let other =
+            changed("search/run", "pub fn run(", &next.replace("next", "step")).unwrap_err();
+        assert!(other.ends_with(" is not known: `fn step(&mut self) -> Option<u64>`"), "{other}");
         let run = changed("search/run", "q: &mut [u64]", "xq: &mut [u64]").unwrap_err();
         assert!(run.ends_with(" is not known: `pub fn run(xq: &mut [u64])`"), "{run}");
+    }
+
+    #[test]
+    fn a_table_that_is_kept_to_be_changed_is_named() {
+        let own = |field| format!("struct Walk<'a> {{\n    {field},\n}}\n\npub fn run(");
+        let kept = |field| changed("search/run", "pub fn run(", &own(field));
+        assert_eq!(kept("q: &'a [u64]"), Ok(()));
+        let due = "search/run: a table is kept to be changed: `q: &'a mut [u64],`";
+        assert_eq!(kept("q: &'a mut [u64]").unwrap_err(), due);
     }
 
     #[test]
