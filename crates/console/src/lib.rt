@@ -21,8 +21,8 @@ pub fn read_full<R: Read>(reader: &mut R, buf: &mut [u8]) -> io::Result<usize>
     Ok(done)
 }
 
-// Lends `fill` a buffer, and prints what it put at the start: as many bytes as it says. Public for the programs. It ensures nothing, since a printer of the standard
-// library promises nothing of what it printed.
+// Lends `fill` a buffer, and prints what it put at the start: as many bytes as it says. Public for the programs. The buffer holds what `fill` left; of what was printed a
+// printer of the standard library promises nothing.
 pub fn print_filled<F: FnOnce(&mut [u8]) -> usize>(
     rt: &impl Print,
     buf: &mut [u8],
@@ -30,6 +30,7 @@ pub fn print_filled<F: FnOnce(&mut [u8]) -> usize>(
 ) -> io::Result<()>
     requires callable { (out : _) → out.now ≡ buf.old → F.pre fill out }
     requires within { (out : _) (n : _) (after : _) → out.now ≡ buf.old → F.post fill out n after → n ≤ length buf.old }
+    ensures { (out : _) × (n : _) × (after : _) × (out.now ≡ buf.old) × (F.post fill out n after) × (after.now ≡ buf.new) }
 {
     let n = fill(buf);
     rt.write_all(&buf[..n])
