@@ -16,7 +16,7 @@ pub fn after(opens: u64, s: u64) -> u64
     requires { s < opens }
     ensures { result ≡ next_setting opens s }
 {
-    s.wrapping_sub(opens) & opens
+    (s + (u64::MAX - opens) + 1) & opens
 }
 
 // The order with a setting: its options are wanted and the other open ones unwanted, and none of them is standard.
