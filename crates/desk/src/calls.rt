@@ -69,11 +69,16 @@ pub fn with_draft(d: Desk, draft: u32) -> Result<Desk, Refusal>
     ensures { done_by d result ≡ done d (keep draft) }
 {
     let at = draft_place(draft)?;
-    let mut next = d;
-    next.kept |= words::word_of(draft - 1);
-    next.wanteds[at] = d.wanted;
-    next.unwanteds[at] = d.unwanted;
-    Ok(next)
+    let mut wanteds = d.wanteds;
+    let mut unwanteds = d.unwanteds;
+    wanteds[at] = d.wanted;
+    unwanteds[at] = d.unwanted;
+    Ok(Desk {
+        kept: d.kept | words::word_of(draft - 1),
+        wanteds,
+        unwanteds,
+        ..d
+    })
 }
 
 // Returns to a draft. Its number is judged first.

@@ -1,5 +1,5 @@
-// A desk with drafts to come back to: a fresh one, and four calls on one that is lent. Each gives what the desk holds to a function on values, and stores what that gave.
-// The calls are thin and lent a desk, as the scope names the form.
+// A desk with drafts to come back to: a fresh one, and four calls on one that is lent. Each gives what the desk holds to a function on values, and stores of what that gave
+// the words that it may alter, and no byte beside them. The calls are thin and lent a desk, as the scope names the form.
 #![tactic(auto)]
 
 ghost use Rattle.std.specs.Prelude.{◌≡◌};
@@ -42,7 +42,9 @@ fn empty(options: u32) -> Desk
 pub fn set(desk: &mut Desk, option: u32, fitted: bool) -> Result<(), Refusal>
     ensures { Alters desk.old (set option fitted) (answered result) desk.new }
 {
-    *desk = calls::with_wish(*desk, option, fitted)?;
+    let next = calls::with_wish(*desk, option, fitted)?;
+    desk.wanted = next.wanted;
+    desk.unwanted = next.unwanted;
     Ok(())
 }
 
@@ -50,7 +52,9 @@ pub fn set(desk: &mut Desk, option: u32, fitted: bool) -> Result<(), Refusal>
 pub fn clear(desk: &mut Desk, option: u32) -> Result<(), Refusal>
     ensures { Alters desk.old (clear option) (answered result) desk.new }
 {
-    *desk = calls::without_wish(*desk, option)?;
+    let next = calls::without_wish(*desk, option)?;
+    desk.wanted = next.wanted;
+    desk.unwanted = next.unwanted;
     Ok(())
 }
 
@@ -58,7 +62,12 @@ pub fn clear(desk: &mut Desk, option: u32) -> Result<(), Refusal>
 pub fn keep(desk: &mut Desk, draft: u32) -> Result<(), Refusal>
     ensures { Alters desk.old (keep draft) (answered result) desk.new }
 {
-    *desk = calls::with_draft(*desk, draft)?;
+    let next = calls::with_draft(*desk, draft)?;
+    let wanteds = next.wanteds;
+    let unwanteds = next.unwanteds;
+    desk.kept = next.kept;
+    desk.wanteds = wanteds;
+    desk.unwanteds = unwanteds;
     Ok(())
 }
 
@@ -66,6 +75,8 @@ pub fn keep(desk: &mut Desk, draft: u32) -> Result<(), Refusal>
 pub fn return_to(desk: &mut Desk, draft: u32) -> Result<(), Refusal>
     ensures { Alters desk.old (return draft) (answered result) desk.new }
 {
-    *desk = calls::at_draft(*desk, draft)?;
+    let next = calls::at_draft(*desk, draft)?;
+    desk.wanted = next.wanted;
+    desk.unwanted = next.unwanted;
     Ok(())
 }
