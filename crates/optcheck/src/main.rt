@@ -6,8 +6,7 @@ use std::io;
 
 fn main(rt: HostRuntime) -> io::Result<()> {
     let mut input = reply::input_buffer();
+    let mut text = reply::reply_buffer();
     let n = console::read_full(&mut rt.reader(), &mut input)?;
-    console::print_filled(&rt, &mut reply::reply_buffer(), |out| {
-        reply::respond(&input[..n], out)
-    })
+    console::print_filled(&rt, &mut text, |out| reply::respond(&input[..n], out))
 }

@@ -6,8 +6,7 @@ use std::io;
 
 fn main(rt: HostRuntime) -> io::Result<()> {
     let mut input = reply::input_buffer();
+    let mut page = filing::page_buffer();
     let n = console::read_full(&mut rt.reader(), &mut input)?;
-    console::print_filled(&rt, &mut filing::page_buffer(), |out| {
-        filing::respond(&input[..n], out)
-    })
+    console::print_filled(&rt, &mut page, |out| filing::respond(&input[..n], out))
 }

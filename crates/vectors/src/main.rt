@@ -28,16 +28,24 @@ impl TryFrom<u8> for Program {
     }
 }
 
+// Writes the reply. Each buffer is in a function of its own, which pays for it only where it is called.
+fn reply_to(rt: &impl Print, input: &[u8]) -> io::Result<()> {
+    let mut text = reply::reply_buffer();
+    console::print_filled(rt, &mut text, |out| reply::respond(input, out))
+}
+
+// Writes the page.
+fn page_of(rt: &impl Print, input: &[u8]) -> io::Result<()> {
+    let mut page = filing::page_buffer();
+    console::print_filled(rt, &mut page, |out| filing::respond(input, out))
+}
+
 impl Program {
     // Writes what the program writes for an input.
     fn answer(self, rt: &impl Print, input: &[u8]) -> io::Result<()> {
         match self {
-            Program::Reply => console::print_filled(rt, &mut reply::reply_buffer(), |out| {
-                reply::respond(input, out)
-            }),
-            Program::Page => console::print_filled(rt, &mut filing::page_buffer(), |out| {
-                filing::respond(input, out)
-            }),
+            Program::Reply => reply_to(rt, input),
+            Program::Page => page_of(rt, input),
         }
     }
 }
@@ -49,15 +57,15 @@ fn answer_next<R: Read>(rt: &impl Print, reader: &mut R) -> io::Result<bool> {
         return Ok(false);
     }
     let [number, low, high] = head;
-    let Ok(program) = Program::try_from(number) else {
-        return Ok(false);
-    };
     let length = u16::from_le_bytes([low, high]) as usize;
     if length > reply::READABLE {
         return Ok(false);
     }
     let mut input = reply::input_buffer();
     console::read_full(reader, &mut input[..length])?;
+    let Ok(program) = Program::try_from(number) else {
+        return Ok(false);
+    };
     program.answer(rt, &input[..length])?;
     Ok(true)
 }
