@@ -1,17 +1,30 @@
--- Laws of numbers as bytes, and of the clauses in book bytes, from the i-th on.
+-- Laws of numbers as bytes, and of the clauses in book bytes, from the i-th on. The number of k + 1 bytes is the first byte and 256 times the number
+-- of the k after it, so k bytes below 256 make a number below 256 to the power k.
 use mathlib.Core.Path.{◌≡◌, refl, ap, ◌∙◌}
 use mathlib.Core.List.{List, [], ◌∷◌}
-use Prim.Native.Nat.{ℕ, zero, suc, ◌+◌, ◌-◌, ◌*◌, ◌/◌, ◌≤◌, ◌<◌}
-use native.Mathlib.Nat.{add-zero, sub-zero}
+use Prim.Native.Nat.{ℕ, zero, suc, ◌+◌, ◌-◌, ◌*◌, ◌/◌, ◌^◌, ◌≤◌, ◌<◌}
+use native.Mathlib.Nat.{add-zero, sub-zero, pow-succ', one-le-pow}
 use native.Mathlib.Omega.{arith}
-use lib.ListN.{length, drop, length-append}
-use lib.Seq.{drop-drop, get_or-drop}
+use lib.ListN.{length, get_or, take, drop, length-append}
+use lib.Seq.{drop-cons, drop-drop, get_or-drop}
 use Rattle.steps.specs.Clause.{Clause}
-use Rattle.book.specs.Bytes.{AllBytes, bytes_of, word_at, words_in, pair, clauses_in, flat}
+use Rattle.book.specs.Bytes.{AllBytes, number, bytes_of, word_at, words_in, pair, clauses_in, flat}
+
+-- one byte, and the bytes after it
+pub number_step : (bs : List ℕ) (p k : ℕ) → p < length bs → number (take (suc k) (drop p bs)) ≡ get_or bs p 0 + 256 * number (take k (drop (suc p) bs))
+unfolding number
+number_step bs p k h = rw (drop-cons bs p 0)
 
 -- the bytes from a place on
 pub bytes_drop : (bs : List ℕ) (p : ℕ) → AllBytes bs → AllBytes (drop p bs)
 bytes_drop bs p all i = rw get_or-drop (all (p + i))
+
+-- k bytes make a number below 256 to the power k
+pub number_lt : (k : ℕ) (bs : List ℕ) → AllBytes bs → number (take k bs) < 256 ^ k
+unfolding number
+number_lt zero bs all = omega arith
+number_lt (suc k) [] all = one-le-pow (suc k) 256 (omega arith)
+number_lt (suc k) (b ∷ bs) all = rw pow-succ' (omega (arith, all 0, number_lt k bs (λ i. all (suc i))))
 
 -- as many bytes as were asked for
 pub length_bytes_of : (k x : ℕ) → length (bytes_of k x) ≡ k

@@ -158,6 +158,7 @@ module _ {t rs : List ℕ} {e : limits.Env} {a : work.Assignment} {v : ℕ} {b :
 -- the joined state: it has as many clauses, so that what is tallied of the second side's is tallied of it, and room for one more D-sequent. It is a point, at which every
 -- undecided variable but v is struck
 pub record Joined (t rs' : List ℕ) (e : limits.Env) (a : work.Assignment) (v m : ℕ) (j : Counts) : Type 0 where
+  pub clauses : j.clauses ≡ m
   pub allowed : j.clauses ≤ e.capacity
   pub table : clause_words j.clauses ≤ length t
   pub room : sequent_words (j.records + 1) ≤ length rs'
@@ -180,6 +181,7 @@ joined {t} {rs} {rs'} {e} {a} {v} {b} {r} {s} {j} m is same =
     (sym (ap (λ (y : State). length y.records) is) ∙ sequents_length rs' j.records)
     (join_few (env_of e) (assignment_of a) v b r x m.branched m.trues m.first m.second) in
     record {
+      clauses = clauses;
       allowed = omega (arith, clauses, m.clauses);
       table = omega (arith, clauses, m.clauses, m.capacity);
       room = omega (arith, records, m.room, same);

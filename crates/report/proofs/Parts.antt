@@ -5,8 +5,8 @@ use mathlib.Core.List.{List, [], ◌∷◌, ◌++◌}
 use Prim.Native.Nat.{ℕ, ◌+◌, ◌≤◌, ◌<◌}
 use native.Mathlib.Numerals.{add-one}
 use native.Mathlib.Omega.{arith}
-use lib.ListN.{length, drop, get_or, drop_of_length-le}
-use lib.Seq.{drop-cons}
+use lib.ListN.{length, take, drop, get_or, length-take, drop_of_length-le}
+use lib.Seq.{drop-cons, get_or-take, length-take-le}
 use Rattle.report.specs.Ascii.{ascii}
 use Rattle.report.specs.Decimal.{decimal}
 use Rattle.report.specs.Text.{fields, clause_line, clause_lines, record_line, record_lines}
@@ -23,6 +23,13 @@ fields_more ns i h = ap fields (drop_more ns i h)
 pub fields_none : (ns : List ℕ) (i : ℕ) → length ns ≤ i → fields (drop i ns) ≡ ascii "\n"
 unfolding fields
 fields_none ns i h = ap fields (drop_of_length-le ns h)
+
+-- the first k elements of a list from place i on
+pub first_more : (k : ℕ) (l : List ℕ) (i : ℕ) → i < k → k ≤ length l → drop i (take k l) ≡ get_or l i 0 ∷ drop (i + 1) (take k l)
+first_more k l i h fits = rw (drop_more (take k l) i (rw (length-take-le k l fits) h), get_or-take k l i 0 h)
+
+pub first_none : (k : ℕ) (l : List ℕ) (i : ℕ) → k ≤ i → drop i (take k l) ≡ []
+first_none k l i h = drop_of_length-le (take k l) {i = i} (simp length-take (omega arith))
 
 -- the lines of clauses of which one is left at least
 pub clauses_more :

@@ -15,9 +15,9 @@ use lib.Count.{ones, ones_in, ones_step, ones-ones, count_trailing_zeros, under}
 use lib.Pow.{pow-lt, shr_lt}
 use Rattle.words.specs.Words.{is_zero, odd, digit, has, minus, meets, first_vars, lowest, Within}
 use Rattle.words.proofs.Membership.{lowest_digit, halves, halves_at, odd_of, half_of, has_bit, has_bit_other, has_bit_eq, has_minus, has_first_vars, bit_halves, digit_minus, and_halves, or_halves, minus_halves}
-use Rattle.words.proofs.Sets.{is_zero_lem, nonzero, member_nonzero, half_nonzero, some_member, within_antisym, and_whole, bit_within, minus_empty, lt_within}
-use Rattle.words.proofs.Unions.{meets_bit}
-use Rattle.words.proofs.Lowest.{lowest_odd, lowest_even, lowest_is}
+use Rattle.words.proofs.Sets.{is_zero_lem, nonzero, member_nonzero, half_nonzero, some_member, within_antisym, and_whole, bit_within, minus_empty, with_rest, lt_within}
+use Rattle.words.proofs.Unions.{meets_or, meets_bit}
+use Rattle.words.proofs.Lowest.{lowest_odd, lowest_even, lowest_is, lowest_within}
 
 -- the empty word has none
 pub ones_zero : ones 0 ≡ 0
@@ -186,6 +186,13 @@ rest_lowest w x n h =
     has_minus x (lowest x) t
     ∙ ap (λ (p : Bool). has x t && not p) (ap (λ (y : ℕ). has y t) (lowest_trailing w x n h) ∙ has_bit t)
     ∙ and-false (has x t)
+
+-- to meet a word is to have its lowest member, or to meet what is left without it
+pub meets_lowest : (w x y : ℕ) → is_zero y ≡ false → y < 2 ^ w → meets x y ≡ (has x (count_trailing_zeros w y) || meets x (minus y (lowest y)))
+meets_lowest w x y n h =
+    ap (meets x) (sym (with_rest y (lowest y) (lowest_within y)))
+    ∙ meets_or x (lowest y) (minus y (lowest y))
+    ∙ ap (λ (p : Bool). p || meets x (minus y (lowest y))) (ap (meets x) (lowest_trailing w y n h) ∙ meets_bit x (count_trailing_zeros w y))
 
 -- of one variable a word has one member or none
 pub ones_bit_and : (x k : ℕ) → ones (bit_and x (2 ^ k)) ≡ digit (has x k)
