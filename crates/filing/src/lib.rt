@@ -10,6 +10,7 @@ ghost use Rattle.page.specs.Filed.{Filed};
 
 use answer::{Answer, Refusal};
 use book::Book;
+use layout::Numbered;
 use order::Order;
 
 // A line has 40 characters and a line feed.
@@ -44,7 +45,12 @@ pub fn respond(input: &[u8], out: &mut [u8]) -> usize
     ensures { Printed (page_to input.now) out.old out.new result }
 {
     if input.len() < reply::ORDER_BYTES {
-        return layout::put_page(Answer::Refused(Refusal::TooShort), &[], &[], out);
+        return layout::put_page(
+            Numbered::from(Answer::Refused(Refusal::TooShort)),
+            &[],
+            &[],
+            out,
+        );
     }
     layout::put_check(
         &input[reply::ORDER_BYTES..],

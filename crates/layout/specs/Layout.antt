@@ -1,10 +1,19 @@
 -- What the functions between the check and the page need and give.
 use Rattle.std.specs.Prelude.{◌≡◌, List, ℕ, ◌^◌, ◌≤◌, ◌<◌, length, take}
-use Rattle.answer.specs.Answer.{tally_in, number_in, Answer}
+use Rattle.answer.specs.Answer.{tally_in, number_in, Answer, Answer.Can, Answer.Cannot, Answer.Refused, Answer.Stopped}
 use Rattle.book.specs.Limits.{max_derived}
 use Rattle.contract.specs.Demands.{rules_of}
 use Rattle.report.specs.declared.writer.Writer.{Writer}
 use Rattle.page.specs.Page.{page_text}
+use Rattle.layout.specs.declared.numbered.Numbered as declared
+use Rattle.layout.specs.declared.numbered.Numbered.TheVariants as told
+
+-- an answer by its numbers
+abbrev pub numbered : declared.Numbered → Answer
+numbered (told.Can t) = Can t
+numbered (told.Cannot t) = Cannot t
+numbered (told.Refused k) = Refused k
+numbered (told.Stopped k t) = Stopped k t
 
 -- the text stands at the start of the buffer, and r is its length
 pub record Begins (text after : List ℕ) (r : ℕ) : Type 0 where

@@ -4,32 +4,33 @@
 
 ghost use Rattle.std.specs.Prelude.{◌≡◌, ◌≤◌, length};
 ghost use Rattle.order.specs.Values.{order_of};
-ghost use Rattle.answer.specs.Numbers.{by_number};
 ghost use Rattle.contract.specs.Check.{check};
 ghost use Rattle.contract.specs.Filled.{lengths};
 ghost use Rattle.checker.specs.Lent.{tables_of};
 ghost use Rattle.report.specs.Text.{Printed};
 ghost use Rattle.reply.specs.Reply.{places};
 ghost use Rattle.page.specs.Page.{page_of, longest};
-ghost use Rattle.layout.specs.Layout.{Fit, page_in};
+ghost use Rattle.layout.specs.Layout.{Fit, numbered, page_in};
 
 use crate::lines::put_lines;
-use answer::Answer;
 use book::Book;
 use checker::Tables;
 use order::Order;
 use report::Writer;
 
 mod lines;
+mod numbered;
 mod rule;
 
+pub use numbered::Numbered;
+
 // The page of an answer and of the derived rules in the first places of two tables, as many as are counted. It is public for crate `filing`, as is the next.
-pub fn put_page(a: Answer, pos: &[u64], neg: &[u64], out: &mut [u8]) -> usize
-    requires fit { Fit (by_number a) pos.now neg.now }
+pub fn put_page(a: Numbered, pos: &[u64], neg: &[u64], out: &mut [u8]) -> usize
+    requires fit { Fit (numbered a) pos.now neg.now }
     requires longest_in_bounds { longest ≤ length out.old }
-    ensures { Printed (page_in (by_number a) pos.now neg.now) out.old out.new result }
+    ensures { Printed (page_in (numbered a) pos.now neg.now) out.old out.new result }
 {
-    let derived = answer::tally_of(a).derived;
+    let derived = a.tally().derived;
     let mut writer = Writer { out, at: 0 };
     put_lines(a, &pos[..derived], &neg[..derived], &mut writer);
     writer.at
@@ -63,5 +64,5 @@ fn check_by(book: &[u8], o: Order, allowance: u32, mut tables: Tables<'_>, out: 
 {
     let found = checker::check(book, o, allowance, &mut tables);
     let Tables { pos, neg, .. } = tables;
-    put_page(found, pos, neg, out)
+    put_page(Numbered::from(found), pos, neg, out)
 }

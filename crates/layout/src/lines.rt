@@ -1,24 +1,24 @@
 // The lines of the page.
 ghost use Rattle.std.specs.Prelude.{◌<◌, ◌^◌, length};
 ghost use Rattle.answer.specs.Answer.{tally_in};
-ghost use Rattle.answer.specs.Numbers.{by_number};
 ghost use Rattle.report.specs.Writer.{Free, Writes};
 ghost use Rattle.page.specs.Page.{first_line, rule_lines, page_text};
 ghost use Rattle.contract.specs.Demands.{rules_of};
+ghost use Rattle.layout.specs.Layout.{numbered};
 
+use crate::numbered::Numbered;
 use crate::rule::put_rule;
-use answer::Answer;
 use report::Writer;
 
 // The first line: the word of the answer, its number, and the counts of branchings and derived rules.
-fn put_first(a: Answer, out: &mut Writer<'_>)
-    requires a_bound { (tally_in (by_number a)).derived < 10 ^ 10 }
-    requires room { Free out.old (first_line (by_number a)) }
-    ensures { Writes out.old (first_line (by_number a)) out.new }
+fn put_first(a: Numbered, out: &mut Writer<'_>)
+    requires a_bound { (tally_in (numbered a)).derived < 10 ^ 10 }
+    requires room { Free out.old (first_line (numbered a)) }
+    ensures { Writes out.old (first_line (numbered a)) out.new }
 {
-    let tally = answer::tally_of(a);
-    out.left(report::printed_word(a), 10);
-    out.right(answer::number_of(a) as u64, 10);
+    let tally = a.tally();
+    out.left(a.word(), 10);
+    out.right(a.number() as u64, 10);
     out.right(tally.branchings as u64, 10);
     out.right(tally.derived as u64, 10);
     out.byte(b'\n');
@@ -36,11 +36,11 @@ fn put_rules(pos: &[u64], neg: &[u64], out: &mut Writer<'_>)
 }
 
 // The whole page: the first line, and those of the rules.
-pub fn put_lines(a: Answer, pos: &[u64], neg: &[u64], out: &mut Writer<'_>)
-    requires a_bound { (tally_in (by_number a)).derived < 10 ^ 10 }
+pub fn put_lines(a: Numbered, pos: &[u64], neg: &[u64], out: &mut Writer<'_>)
+    requires a_bound { (tally_in (numbered a)).derived < 10 ^ 10 }
     requires few { length pos.now < 10 ^ 4 }
-    requires room { Free out.old (page_text (by_number a) (rules_of pos.now neg.now)) }
-    ensures { Writes out.old (page_text (by_number a) (rules_of pos.now neg.now)) out.new }
+    requires room { Free out.old (page_text (numbered a) (rules_of pos.now neg.now)) }
+    ensures { Writes out.old (page_text (numbered a) (rules_of pos.now neg.now)) out.new }
 {
     put_first(a, out);
     put_rules(pos, neg, out);

@@ -17,7 +17,7 @@ unfolding page_to
 whole input o h e = ap page_of (result_read places input o h e)
 
 pub returns-then-input-lt-ORDER_BYTES : goal.returns-then-input-lt-ORDER_BYTES
-returns-then-input-lt-ORDER_BYTES c = printed_as (short_told.page ∙ sym (same_check.short _ (omega arith))) c.put_page.ensures
+returns-then-input-lt-ORDER_BYTES c = printed_as (short_told.page ∙ sym (same_check.short _ (omega arith))) (rw c.from.ensures at c.put_page.ensures)
 
 pub returns : goal.returns
 returns c = printed_as (whole _ _ (omega arith) c.order_in.ensures) c.put_check.ensures

@@ -7,10 +7,10 @@ use Rattle.layout.proofs.check_by.Goals as goal
 
 pub put_page-requires-clause-fit : goal.put_page-requires-clause-fit
 put_page-requires-clause-fit c =
-    (checked_told c.args.book.now (order_of c.args.o) c.args.allowance (tables_of c.args.tables) c.ranges.allowance.fits c.requires.places (by_number c.check-found.result) (tables_of c.check-found.new.tables) c.check-found.ensures.checked).fit
+    rw c.from.ensures (checked_told c.args.book.now (order_of c.args.o) c.args.allowance (tables_of c.args.tables) c.ranges.allowance.fits c.requires.places (by_number c.check-found.result) (tables_of c.check-found.new.tables) c.check-found.ensures.checked).fit
 
 pub returns : goal.returns
 returns c =
     printed_as
     (checked_told c.args.book.now (order_of c.args.o) c.args.allowance (tables_of c.args.tables) c.ranges.allowance.fits c.requires.places (by_number c.check-found.result) (tables_of c.check-found.new.tables) c.check-found.ensures.checked).page
-    c.put_page.ensures
+    (rw c.from.ensures at c.put_page.ensures)
