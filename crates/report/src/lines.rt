@@ -7,7 +7,7 @@ ghost use Rattle.report.specs.Writer.{Free, Writes};
 use crate::writer::Writer;
 use answer::Answer;
 
-// The word of an answer, which the text begins with. It is public for crate `layout`, as the page begins with it too.
+// The word of an answer, which the text begins with. It is public, as is the text that begins with it.
 pub fn printed_word(a: Answer) -> &'static [u8]
     ensures { result.now ≡ word_text (by_number a) }
 {
